@@ -10,9 +10,9 @@ pub use Rattle.attr_lists.proofs.RegistersLemmas.{body_named, body_within, defin
 -- Names. `with_names-extends`: new names are appended. `list_numbered`: the lines of a list that is added have the numbers of their
 -- names. `number_at`: of names that differ, the one at a number has this number.
 pub use Rattle.attr_lists.proofs.NameLemmas.{with_names-extends}
--- `lines_numbered_by`: lines that were read have the numbers of their names. `names_back`: the first names are those before. `registers_read`:
--- such lines are registered as those of the buffer.
-pub use Rattle.attr_lists.proofs.FreshNames.{lines_numbered_by, names_back, registers_read}
+-- `lines_numbered_by`: lines that are numbered have the numbers of their names. `names_back`: the first names are those before.
+-- `registers_numbered`: lines that were numbered first are registered as those without numbers. `stay_registered`: then the other lists stay.
+pub use Rattle.attr_lists.proofs.FreshNames.{lines_numbered_by, names_back, registers_numbered, stay_registered}
 pub use Rattle.attr_lists.proofs.NameTableLaws.{list_numbered}
 pub use Rattle.attr_lists.proofs.NamedDefinitions.{number_at}
 -- Lists. `copied_lines`: a copy has the lines.

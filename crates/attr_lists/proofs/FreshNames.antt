@@ -1,7 +1,7 @@
 -- Names that are appended before their list is registered, and lines that have the numbers of their names.
-use Rattle.std.proofs.Common.{◌≡◌, ℕ, ◌<◌, ◌≤◌, Bool, false, List, [], ◌∷◌, ◌++◌, length, get_or, map, take, All}
+use Rattle.std.proofs.Common.{◌≡◌, ℕ, ◌<◌, ◌≤◌, List, [], ◌∷◌, ◌++◌, length, get_or, map, take, All}
 use Rattle.std.proofs.Common.{Option, Some, None, IfSome, option_map, unwrap_or}
-use Rattle.std.proofs.Common.{bytes_eq, refl, sym, ap, subst, ◌∙◌, ⊎_elim, arith}
+use Rattle.std.proofs.Common.{append-nil, bytes_eq, refl, sym, ap, subst, ◌∙◌, ⊎_elim, arith}
 use Rattle.std.specs.List.{IsDistinct}
 use Rattle.std.proofs.lemmas.Bool.{cases_lt}
 use Rattle.std.proofs.lemmas.List.{length-map, length-take, take-map, get_or-take, get_or_past, take_at}
@@ -12,27 +12,22 @@ use Rattle.attr_lists.specs.declared.name_table.parts.Parts.{Parts}
 use Rattle.attr_lists.specs.declared.types.AttributeId.{AttributeId}
 use Rattle.attr_lists.specs.declared.types.TrackedAssignment.{TrackedAssignment}
 use Rattle.attr_lists.specs.Collections.{Collection}
-use Rattle.attr_lists.specs.Definitions.{definitions_of, is_registered, macros_defined, of_other_lists, with_list}
+use Rattle.attr_lists.specs.Definitions.{definitions_of, is_registered, macros_defined, with_list}
 use Rattle.attr_lists.specs.Definitions.{HoldsList, IsSoundCollection, IsWithin, RegistersAs}
-use Rattle.attr_glob.specs.declared.search.pattern.Mapping.{Mapping}
-use Rattle.attr_lists.specs.KeptLists.{kept_list_where}
-use Rattle.attr_lists.specs.ListViews.{Entry, entries_view}
-use Rattle.attr_lists.specs.declared.types.Dropped.{Dropped}
-use Rattle.attr_lists.specs.declared.types.Value.{Value}
-use Rattle.attr_lists.specs.shared.Reading.{IsReadWith, with_first}
+use Rattle.attr_lists.specs.ListViews.{Entry}
+use Rattle.attr_lists.specs.shared.Reading.{NumbersLines, with_first}
 use Rattle.std.specs.BTreeSet.{contains}
 use Rattle.std.specs.Ordering.{nat_cmp}
 use Rattle.attr_lists.specs.Numbers.{id_of, macro_names, names_of, names_in, no_number, numbered, numbered_item, numbered_lines}
 use Rattle.attr_lists.specs.Numbers.{with_name, with_names}
 use Rattle.attr_lists.specs.Numbers.{AreNamed, IsNumberOf}
 use Rattle.attr_lists.specs.inner.EntryViews.{definitions_view, all_definitions, definitions_at, AreEntries, AreValid, IsEntry}
-use Rattle.attr_lists.specs.inner.NameTableView.{parts_view, AreWhole, IsPartlyAdded, IsPartlyRead}
+use Rattle.attr_lists.specs.inner.NameTableView.{parts_view, AreWhole, IsPartlyRead}
 use Rattle.attr_lists.specs.inner.Registered.{registered_views, AreAscending}
 use Rattle.attr_lists.specs.shared.Keeping.{IsNumbered, StayRegistered}
-use Rattle.attr_lists.specs.shared.MacroNumbers.{ListsMacros}
 use Rattle.attr_lists.proofs.NamedDefinitions.{number_where}
-use Rattle.attr_lists.proofs.NameLemmas.{extends_again, with_names-distinct, with_names-extends}
-use Rattle.attr_lists.proofs.NameTableLaws.{added_keeps, count_more, list_numbered, named_still}
+use Rattle.attr_lists.proofs.NameLemmas.{with_names-distinct, with_names-extends}
+use Rattle.attr_lists.proofs.NameTableLaws.{added_holds, added_keeps, count_more, list_numbered, named_still}
 use Rattle.attr_lists.proofs.NumberLemmas.{numbered_known}
 
 -- a collection with more names is sound
@@ -75,57 +70,58 @@ entries_first count entries are n d lt =
     let few = length-take count entries in
     subst (IsEntry n) (sym (get_or-take count entries n d (omega (arith, lt, few)))) (are n d (omega (arith, lt, few)))
 
--- parts of which the first names are left are whole
+-- parts of which the first names are left are whole, if those before the other names were added were
 module _ (mid now : Parts) (count : ℕ) (names : now.names ≡ take count mid.names) (lists : now.lists ≡ mid.lists)
     (entries : now.entries.items ≡ take count mid.entries.items) (macros : now.macros ≡ mid.macros) where
-  defined_first : ((n : ℕ) → n < count → definitions_at mid.entries.items n ≡ definitions_of (parts_view now) n)
-      → IsSoundCollection (parts_view now) → length now.entries.items ≡ length now.names → (n : ℕ)
-      → definitions_at now.entries.items n ≡ definitions_of (parts_view now) n
-  defined_first defined sound counted n =
-      ⊎_elim
-      (λ (lt : n < count).
-      ap (λ es. definitions_at es n) entries
-      ∙ ap (λ l. get_or l n []) (sym (take-map definitions_view count mid.entries.items))
-      ∙ get_or-take count (all_definitions mid.entries.items) n [] lt ∙ defined n lt)
-      (λ (past : count ≤ n).
+  first_whole : (start : Parts) → IsPartlyRead start mid → AreWhole start → IsSoundCollection (parts_view now)
+      → length now.entries.items ≡ length now.names → AreWhole now
+  first_whole start part whole sound counted =
+      let same : registered_views now.lists.items ≡ registered_views start.lists.items =
+      ap registered_views (ap (λ ls. ls.items) lists ∙ part.lists) in
+      let definitions : (n : ℕ) → definitions_of (parts_view now) n ≡ definitions_of (parts_view start) n =
+      λ n. ap (λ ls. definitions_of (record { names = now.names; lists = ls }) n) same in
       let few = length-take count mid.entries.items in
-      get_or_past (all_definitions now.entries.items) n []
-      (omega (arith, past, few, ap length entries, length-map now.entries.items definitions_view))
-      ∙ sym (sound.numbers n (omega (arith, past, few, ap length entries, counted))))
-      (cases_lt n count)
-
-  pub first_whole : IsSoundCollection (parts_view now) → length now.entries.items ≡ length now.names → AreEntries mid.entries.items
-      → ((n : ℕ) → n < count → definitions_at mid.entries.items n ≡ definitions_of (parts_view now) n)
-      → AreAscending (registered_views now.lists.items) → ListsMacros now.macros (parts_view now) → AreWhole now
-  first_whole sound counted are defined ascending listed = record {
-    sound = sound;
-    counted = counted;
-    entries = subst AreEntries (sym entries) (entries_first count mid.entries.items are);
-    defined = defined_first defined sound counted;
-    ascending = ascending;
-    macros = listed;
-  }
+      record {
+        sound = sound;
+        counted = counted;
+        entries = subst AreEntries (sym entries) (entries_first count mid.entries.items part.entries);
+        defined = λ n. ⊎_elim
+            (λ (lt : n < count).
+            ap (λ es. definitions_at es n) entries
+            ∙ ap (λ l. get_or l n []) (sym (take-map definitions_view count mid.entries.items))
+            ∙ get_or-take count (all_definitions mid.entries.items) n [] lt
+            ∙ part.definitions n ∙ whole.defined n ∙ sym (definitions n))
+            (λ (past : count ≤ n).
+            get_or_past (all_definitions now.entries.items) n []
+            (omega (arith, past, few, ap length entries, length-map now.entries.items definitions_view))
+            ∙ sym (sound.numbers n (omega (arith, past, few, ap length entries, counted))))
+            (cases_lt n count);
+        ascending = subst AreAscending (sym same) whole.ascending;
+        macros = λ n none. definitions n ∙ whole.macros n (ap (λ set. contains nat_cmp set n) (sym (macros ∙ part.macros)) ∙ none);
+      }
 
   -- such as those that were whole with all names
   pub left_first : AreWhole mid → IsSoundCollection (parts_view now) → AreWhole now
   left_first whole sound =
-      first_whole sound
+      first_whole mid (record {
+        names = ([], sym (append-nil mid.names));
+        counted = omega arith;
+        entries = whole.entries;
+        definitions = λ n. refl;
+        lists = refl;
+        macros = refl;
+      }) whole sound
       (omega (arith, ap length entries, ap length names, whole.counted, length-take count mid.entries.items, length-take count mid.names))
-      whole.entries
-      (λ n lt. whole.defined n ∙ ap (λ ls. definitions_of (record { names = mid.names; lists = registered_views ls.items }) n) (sym lists))
-      (subst (λ ls. AreAscending (registered_views ls.items)) (sym lists) whole.ascending)
-      (λ n none. ap (λ ls. definitions_of (record { names = mid.names; lists = registered_views ls.items }) n) lists
-      ∙ whole.macros n (ap (λ set. contains nat_cmp set n) (sym macros) ∙ none))
 
   -- and those before memory ran out
   pub read_back : (start : Parts) → IsPartlyRead start mid → count ≡ length start.names → AreWhole start
       → (parts_view now ≡ parts_view start) × AreWhole now
   read_back start part count_is whole =
       let same_names : now.names ≡ start.names = names ∙ ap (take count) part.names.1 ∙ take_at start.names part.names.0 count (sym count_is) in
-      let same_lists : now.lists.items ≡ start.lists.items = ap (λ ls. ls.items) lists ∙ part.lists in
-      let view : parts_view now ≡ parts_view start = λ j. record { names = same_names j; lists = registered_views (same_lists j) } in (
+      let view : parts_view now ≡ parts_view start =
+      λ j. record { names = same_names j; lists = registered_views ((ap (λ ls. ls.items) lists ∙ part.lists) j) } in (
         view,
-        first_whole (subst IsSoundCollection (sym view) whole.sound)
+        first_whole start part whole (subst IsSoundCollection (sym view) whole.sound)
             (omega (
               arith,
               ap length entries,
@@ -134,24 +130,8 @@ module _ (mid now : Parts) (count : ℕ) (names : now.names ≡ take count mid.n
               count_is,
               part.counted,
               length-take count mid.entries.items,
-            ))
-            part.entries
-            (λ n lt. part.definitions n ∙ whole.defined n ∙ ap (λ known. definitions_of known n) (sym view))
-            (subst (λ ls. AreAscending (registered_views ls)) (sym same_lists) whole.ascending)
-            (λ n none. ap (λ known. definitions_of known n) view
-            ∙ whole.macros n (ap (λ set. contains nat_cmp set n) (sym (macros ∙ part.macros)) ∙ none)),
+            )),
       )
-
--- what is left of an addition whose names were appended before
-pub partly_after : (list_id : ℕ) (start mid now : Parts) → IsPartlyRead start mid → IsPartlyAdded list_id mid now → IsPartlyAdded list_id start now
-partly_after list_id start mid now read added = record {
-  names = extends_again start.names mid.names read.names.0 now.names added.names.0 read.names.1 added.names.1;
-  counted = omega (arith, read.counted, added.counted);
-  entries = added.entries;
-  definitions = λ n. added.definitions n ∙ ap (of_other_lists list_id) (read.definitions n);
-  lists = added.lists ∙ read.lists;
-  macros = λ n h. added.macros n (ap (λ set. contains nat_cmp set n) read.macros ∙ h);
-}
 
 -- ---- lines that have the numbers of their names
 
@@ -201,12 +181,12 @@ known_lines names (entry ∷ entries) distinct h =
       λ j. own.1 j ∷ rest.1 j,
     )
 
--- the lines of names that were inserted have the numbers of these names
-pub lines_numbered_by : (old new : List (List ℕ)) (entries lines : List Entry) → new ≡ with_names old (names_in entries)
-    → lines ≡ numbered_lines new entries → All (IsNumbered new) lines
-lines_numbered_by old new entries lines names is =
-    subst (All (IsNumbered new)) (sym is)
-    (subst (λ ns. All (IsNumbered ns) (numbered_lines ns entries)) (sym names) (list_numbered old entries))
+-- lines that are numbered have the numbers of their names
+pub lines_numbered_by : (entries : List Entry) (old new : List (List ℕ)) (lines : List Entry) → NumbersLines entries old new lines
+    → All (IsNumbered new) lines
+lines_numbered_by entries old new lines h =
+    subst (All (IsNumbered new)) (sym h.lines)
+    (subst (λ ns. All (IsNumbered ns) (numbered_lines ns entries)) (sym h.names) (list_numbered old entries))
 
 -- lines that were numbered first are registered as they are without numbers
 pub registered_numbered : (list_id : ℕ) (entries : List Entry) (old : Collection) → IsDistinct bytes_eq old.names
@@ -220,41 +200,45 @@ registered_numbered list_id entries old distinct =
     ap (λ ns. macros_defined (numbered_lines ns lines)) known.0 ∙ ap macros_defined known.1 in
     λ j. record { names = known.0 j; lists = old.lists ++ record { list_id = list_id; macros = macros j } ∷ [] }
 
--- lines that have numbers already have those of the names after them
-pub numbered_still : (list_id : ℕ) (entries : List Entry) (old new : Collection) → IsDistinct bytes_eq old.names → All (IsNumbered old.names) entries
-    → new ≡ with_list list_id entries old → (new.names ≡ old.names) × (entries ≡ numbered_lines new.names entries)
-numbered_still list_id entries old new distinct h added =
-    let known = known_lines old.names entries distinct h in
-    let names : new.names ≡ old.names = ap (λ (c : Collection). c.names) added ∙ known.0 in
-    (names, sym (ap (λ ns. numbered_lines ns entries) names ∙ known.1))
+-- a list is registered, and the others stay
+pub stay_registered : (list_id : ℕ) (entries : List Entry) (old new : Collection) → IsSoundCollection old → RegistersAs list_id entries old new
+    → StayRegistered old new
+stay_registered list_id entries old new sound registers other es h =
+    subst (λ known. HoldsList known other es) (sym registers.added) (added_keeps old list_id entries sound registers.fresh other es h)
+
+-- lines that have numbers already keep them when they are registered
+module _ (list_id : ℕ) (entries : List Entry) (old new : Collection) (sound : IsSoundCollection old) (numbered : All (IsNumbered old.names) entries)
+    (registers : RegistersAs list_id entries old new) where
+  pub names_stay : new.names ≡ old.names
+  names_stay = ap (λ (c : Collection). c.names) registers.added ∙ (known_lines old.names entries sound.distinct numbered).0
+
+  pub lines_held : HoldsList new list_id entries
+  lines_held =
+      let known = known_lines old.names entries sound.distinct numbered in
+      subst (λ c. HoldsList c list_id entries) (sym registers.added)
+      (subst (HoldsList (with_list list_id entries old) list_id) (ap (λ ns. numbered_lines ns entries) known.0 ∙ known.1)
+      (added_holds old list_id entries sound registers.fresh))
 
 -- the names that were there before are the first
-pub names_back : (before mid : Collection) (texts : List (List ℕ)) → mid.names ≡ with_names before.names texts → mid.lists ≡ before.lists
-    → with_first (length before.names) mid ≡ before
-names_back before mid texts names lists =
-    let more = with_names-extends before.names texts in
-    let same : take (length before.names) mid.names ≡ before.names =
-    ap (take (length before.names)) (names ∙ more.1) ∙ take_at before.names more.0 (length before.names) refl in
+pub names_back : (entries lines : List Entry) (before mid : Collection) (count : ℕ) → count ≡ length before.names
+    → NumbersLines entries before.names mid.names lines → mid.lists ≡ before.lists → with_first count mid ≡ before
+names_back entries lines before mid count is read lists =
+    let more = with_names-extends before.names (names_in entries) in
+    let same : take count mid.names ≡ before.names =
+    ap (take count) (read.names ∙ more.1) ∙ take_at before.names more.0 count (sym is) in
     λ j. record { names = same j; lists = lists j }
 
--- lines that were read with their numbers are registered as those of the buffer
-pub registers_read : (allow_macros : Bool) (bytes : List ℕ) (before mid after : Collection) (list_id : ℕ) (mappings : List (Mapping Value))
-    (dropped : List Dropped) → IsSoundCollection before → IsSoundCollection mid
-    → IsReadWith allow_macros bytes before.names mid.names mappings dropped
-    → mid.lists ≡ before.lists → RegistersAs list_id (entries_view mappings) mid after
-    → RegistersAs list_id (kept_list_where allow_macros bytes) before after
-    × (entries_view mappings ≡ numbered_lines after.names (kept_list_where allow_macros bytes)) × StayRegistered before after
-registers_read allow_macros bytes before mid after list_id mappings dropped sound later read lists registers =
-    let kept = kept_list_where allow_macros bytes in
-    let numbered = lines_numbered_by before.names mid.names kept (entries_view mappings) read.names read.lines in
-    let still = numbered_still list_id (entries_view mappings) mid after later.distinct numbered registers.added in
-    let fresh : is_registered before list_id ≡ false =
-    ap (λ ls. is_registered (record { names = before.names; lists = ls }) list_id) (sym lists) ∙ registers.fresh in
-    let added : after ≡ with_list list_id kept before =
-    registers.added ∙ ap (λ es. with_list list_id es mid) read.lines
-    ∙ (λ j. with_list list_id (numbered_lines (read.names j) kept) (record { names = read.names j; lists = lists j }))
-    ∙ registered_numbered list_id kept before sound.distinct in (
-      record { fresh = fresh; added = added },
-      read.lines ∙ ap (λ ns. numbered_lines ns kept) (sym still.0),
-      λ other es h. subst (λ known. HoldsList known other es) (sym added) (added_keeps before list_id kept sound fresh other es h),
+-- lines that were numbered first are registered as those without numbers
+pub registers_numbered : (list_id : ℕ) (entries lines : List Entry) (before mid after : Collection) → IsSoundCollection before
+    → IsSoundCollection mid → NumbersLines entries before.names mid.names lines → mid.lists ≡ before.lists → RegistersAs list_id lines mid after
+    → RegistersAs list_id entries before after × NumbersLines entries before.names after.names lines
+registers_numbered list_id entries lines before mid after sound later read lists registers =
+    let names = names_stay list_id lines mid after later (lines_numbered_by entries before.names mid.names lines read) registers in (
+      record {
+        fresh = ap (λ ls. is_registered (record { names = before.names; lists = ls }) list_id) (sym lists) ∙ registers.fresh;
+        added = registers.added ∙ ap (λ es. with_list list_id es mid) read.lines
+            ∙ (λ j. with_list list_id (numbered_lines (read.names j) entries) (record { names = read.names j; lists = lists j }))
+            ∙ registered_numbered list_id entries before sound.distinct;
+      },
+      record { names = names ∙ read.names; lines = read.lines ∙ ap (λ ns. numbered_lines ns entries) (sym names) },
     )

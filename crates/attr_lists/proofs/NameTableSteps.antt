@@ -1,19 +1,16 @@
 -- What the steps of an addition and of a removal do to the parts of a name table.
-use Rattle.std.proofs.Common.{◌≡◌, ◌≢◌, ℕ, zero, suc, ◌<◌, ◌≤◌, true, false, not, eqb, List, [], ◌∷◌, ◌++◌, length, get_or, take, map}
+use Rattle.std.proofs.Common.{◌≡◌, ◌≢◌, ℕ, zero, suc, ◌<◌, ◌≤◌, true, false, not, eqb, List, [], ◌∷◌, ◌++◌, length, get_or, map}
 use Rattle.std.proofs.Common.{filter, slice_get, All, Option, Some, None, unwrap_or, option_map, refl, sym, ap, subst, ◌∙◌, ⊎_elim, arith}
 use Rattle.std.proofs.Common.{ne_eqb, eq-eqb}
 use Rattle.std.specs.Prelude.{◌==◌}
-use Rattle.std.specs.Global.{Vec}
 use Rattle.std.specs.List.{AllPairs, remove}
-use Rattle.std.specs.BTreeSet.{BTreeSet}
 use Rattle.std.proofs.lemmas.Bool.{cases_lt, cond-true, cond-false}
-use Rattle.std.proofs.lemmas.List.{length-map, length-take, map-append, take-map, drop-map, get_or-take, get_or_past, take_at}
+use Rattle.std.proofs.lemmas.List.{length-map, map-append, take-map, drop-map, get_or_past}
 use Rattle.std.proofs.lemmas.List.Elements.{All-nil, All-head, All-tail, All-append, All-map, All-weaker}
 use Rattle.std.proofs.lemmas.List.Folds.{list_any_at}
 use Rattle.std.proofs.lemmas.List.Kept.{AllPairs-filter}
 use Rattle.std.proofs.lemmas.List.Quantifiers.{all_pairs_push}
 use Rattle.std.proofs.lemmas.Option.{get_or_from_slice_get, slice_get-map, slice_get_read, slice_get_within}
-use Rattle.attr_lists.specs.declared.name_table.entry.NameEntry.{NameEntry}
 use Rattle.attr_lists.specs.declared.name_table.parts.Parts.{Parts}
 use Rattle.attr_lists.specs.declared.name_table.registered.ListMacros.{ListMacros}
 use Rattle.attr_lists.specs.Collections.{MacroDefinition, NumberedBody, RegisteredList, Collection}
@@ -21,18 +18,16 @@ use Rattle.attr_lists.specs.Definitions.{bodies_defined, bodies_of_list, bodies_
 use Rattle.attr_lists.specs.Definitions.{definitions_of, is_registered, of_other_lists, macros_defined, with_list, without_list, HoldsList}
 use Rattle.attr_lists.specs.Definitions.{IsSoundCollection}
 use Rattle.attr_lists.specs.ListViews.{Entry}
-use Rattle.attr_lists.specs.Numbers.{AppendsNames, names_in, number_of, numbered_lines, with_names}
-use Rattle.attr_lists.specs.inner.EntrySteps.{KeepsOtherDefinitions, RemovesListed}
+use Rattle.attr_lists.specs.Numbers.{names_in, number_of, numbered_lines, with_names}
+use Rattle.attr_lists.specs.inner.EntrySteps.{RemovesListed}
 use Rattle.attr_lists.specs.inner.EntryViews.{definitions_view, all_definitions, definitions_at, AreAllInOrder, AreEntries, AreInListOrder, AreValid}
-use Rattle.attr_lists.specs.inner.NameTableView.{parts_view, AreWhole, IsPartlyAdded}
+use Rattle.attr_lists.specs.inner.NameTableView.{parts_view, AreWhole, IsPartlyRegistered}
 use Rattle.attr_lists.specs.inner.Registered.{bodies_of_name, registered_views, registered_view, AgreesOn, AreAscending, IsAbove, ListsBodies}
-use Rattle.attr_lists.specs.shared.Keeping.{IsNumbered, StayRegistered}
 use Rattle.attr_lists.specs.shared.MacroNumbers.{KeepsNumbers, ListsMacros, RemovesUndefined}
 use Rattle.attr_lists.proofs.ListLemmas.{get_or-map}
 use Rattle.attr_lists.proofs.MacroLemmas.{added_listed, removed_listed, still_listed}
-use Rattle.attr_lists.proofs.NameLemmas.{with_names-extends}
-use Rattle.attr_lists.proofs.NameTableLaws.{added_at, added_holds, added_keeps, added_sound, bodies_of_lines, definitions_in, lack_registered}
-use Rattle.attr_lists.proofs.NameTableLaws.{none_of_list, of_other_lists-free, list_numbered, own_bodies, removed_at, removed_sound, Lack}
+use Rattle.attr_lists.proofs.NameTableLaws.{added_at, added_sound, bodies_of_lines, definitions_in, lack_registered}
+use Rattle.attr_lists.proofs.NameTableLaws.{none_of_list, of_other_lists-free, own_bodies, removed_at, removed_sound, Lack}
 use Rattle.attr_lists.proofs.NamedDefinitions.{bodies_by_number}
 
 -- ---- ids
@@ -222,63 +217,37 @@ module _ (p q : Parts) (list_id : ℕ) (entries : List Entry) (list : List Numbe
             (added_listed (parts_view p) list_id entries p.macros q.macros whole.macros kept (λ n none. sym (bodies n) ∙ listed n none));
       }
 
--- the parts when memory runs out
-pub partly_added : (p : Parts) (names texts : List (List ℕ)) (entries : Vec NameEntry) (lists : Vec ListMacros) (macros : BTreeSet ℕ) (list_id : ℕ)
-    → names ≡ with_names p.names texts → length p.entries.items ≤ length entries.items → AreEntries entries.items
-    → KeepsOtherDefinitions list_id p.entries.items entries.items → lists.items ≡ p.lists.items → KeepsNumbers p.macros macros
-    → IsPartlyAdded list_id p (record { names = names; entries = entries; lists = lists; macros = macros })
-partly_added p names texts entries lists macros list_id is count are others same kept = grind (arith, with_names-extends p.names texts)
-
--- `mid` are the parts when memory runs out, and `now` those that are taken back
-module _ (start mid now : Parts) (list_id count : ℕ) (part : IsPartlyAdded list_id start mid) (count_is : count ≡ length start.names)
-    (whole : AreWhole start) (above : IsAbove list_id (registered_views start.lists.items)) (names : now.names ≡ take count mid.names)
-    (definitions : all_definitions now.entries.items ≡ map (of_other_lists list_id) (all_definitions (take count mid.entries.items)))
+-- `mid` are the parts when memory runs out, and `now` those from which the list's definitions are taken back
+module _ (start mid now : Parts) (list_id : ℕ) (part : IsPartlyRegistered list_id start mid) (whole : AreWhole start)
+    (above : IsAbove list_id (registered_views start.lists.items)) (names : now.names ≡ mid.names)
+    (definitions : all_definitions now.entries.items ≡ map (of_other_lists list_id) (all_definitions mid.entries.items))
     (entries : AreEntries mid.entries.items → AreEntries now.entries.items) (lists : now.lists.items ≡ mid.lists.items)
     (macros : now.macros ≡ mid.macros)
   where
-    same_names : now.names ≡ start.names
-    same_names = names ∙ ap (take count) part.names.1 ∙ take_at start.names part.names.0 count (sym count_is)
-
     same_view : parts_view now ≡ parts_view start
-    same_view = λ j. record { names = same_names j; lists = registered_views ((lists ∙ part.lists) j) }
-
-    counted_now : length now.entries.items ≡ count
-    counted_now = omega (
-      arith,
-      length-map now.entries.items definitions_view,
-      ap length definitions,
-      length-map (all_definitions (take count mid.entries.items)) (of_other_lists list_id),
-      length-map (take count mid.entries.items) definitions_view,
-      length-take count mid.entries.items,
-      part.counted,
-      whole.counted,
-      count_is,
-    )
-
-    at_number : (n : ℕ) → definitions_at now.entries.items n ≡ of_other_lists list_id (definitions_at (take count mid.entries.items) n)
-    at_number n =
-        ap (λ l. get_or l n []) definitions ∙ get_or-map (of_other_lists list_id) (all_definitions (take count mid.entries.items)) n []
+    same_view = λ j. record { names = (names ∙ part.names) j; lists = registered_views ((lists ∙ part.lists) j) }
 
     defined_now : (n : ℕ) → definitions_at now.entries.items n ≡ definitions_of (parts_view start) n
     defined_now n =
-        ⊎_elim
-        (λ (lt : n < count).
-        at_number n
-        ∙ ap (of_other_lists list_id) (ap (λ l. get_or l n []) (sym (take-map definitions_view count mid.entries.items))
-        ∙ get_or-take count (all_definitions mid.entries.items) n [] lt)
+        ap (λ l. get_or l n []) definitions ∙ get_or-map (of_other_lists list_id) (all_definitions mid.entries.items) n []
         ∙ part.definitions n ∙ ap (of_other_lists list_id) (whole.defined n)
         ∙ of_other_lists-free list_id (definitions_of (parts_view start) n)
-        (none_of_list list_id n (registered_views start.lists.items) (above_lacks list_id (registered_views start.lists.items) above)))
-        (λ (past : count ≤ n).
-        get_or_past (all_definitions now.entries.items) n [] (omega (arith, past, counted_now, length-map now.entries.items definitions_view))
-        ∙ sym (whole.sound.numbers n (omega (arith, past, count_is))))
-        (cases_lt n count)
+        (none_of_list list_id n (registered_views start.lists.items) (above_lacks list_id (registered_views start.lists.items) above))
 
-    pub rolled_back : (parts_view now ≡ parts_view start) × AreWhole now
-    rolled_back = (
+    pub taken_back : (parts_view now ≡ parts_view start) × AreWhole now
+    taken_back = (
       same_view,
-      still_whole start now whole same_view (counted_now ∙ count_is) (entries part.entries) defined_now
-          (subst (KeepsNumbers start.macros) (sym macros) part.macros),
+      still_whole start now whole same_view
+          (omega (
+            arith,
+            length-map now.entries.items definitions_view,
+            ap length definitions,
+            length-map (all_definitions mid.entries.items) (of_other_lists list_id),
+            length-map mid.entries.items definitions_view,
+            part.counted,
+            whole.counted,
+          ))
+          (entries part.entries) defined_now (subst (KeepsNumbers start.macros) (sym macros) part.macros),
     )
 
 -- ---- a list is held
@@ -308,39 +277,11 @@ module _ (table : Collection) (at : ℕ) (own : RegisteredList) (sound : IsSound
       → (name : List ℕ) → AgreesOn table.names own.macros entries name
   lines_held entries h name = sym (held_for name) ∙ h.bodies name
 
--- ---- the clauses of an addition
+-- ---- a list is registered
 
--- `p` are the parts before and `q` those after, and `seen` the lists that have no list id as great as the new one
-module _ (p q : Parts) (now : Collection) (seen : List ListMacros) (list_id : ℕ) (entries lines : List Entry) (is : parts_view p ≡ now)
-    (seen_is : seen ≡ p.lists.items) (above : IsAbove list_id (registered_views seen))
-    (added : parts_view q ≡ with_list list_id entries (parts_view p)) (numbered_is : lines ≡ numbered_lines q.names entries)
-    (sound : IsSoundCollection (parts_view p)) where
-  fresh : is_registered (parts_view p) list_id ≡ false
-  fresh = lack_registered list_id (registered_views p.lists.items) (above_lacks list_id (registered_views p.lists.items)
-      (subst (λ ls. IsAbove list_id (registered_views ls)) seen_is above))
-
-  names_are : q.names ≡ with_names p.names (names_in entries)
-  names_are = ap (λ (v : Collection). v.names) added
-
-  lines_are : numbered_lines (with_names p.names (names_in entries)) entries ≡ lines
-  lines_are = sym (numbered_is ∙ ap (λ names. numbered_lines names entries) names_are)
-
-  pub is_fresh : is_registered now list_id ≡ false
-  is_fresh = subst (λ v. is_registered v list_id ≡ false) is fresh
-
-  pub are_numbered : All (IsNumbered q.names) lines
-  are_numbered = subst (λ ls. All (IsNumbered q.names) ls) (sym numbered_is)
-      (subst (λ names. All (IsNumbered names) (numbered_lines names entries)) (sym names_are) (list_numbered p.names entries))
-
-  pub are_kept : AppendsNames now.names q.names
-  are_kept =
-      let more = with_names-extends p.names (names_in entries) in
-      (more.0, names_are ∙ more.1 ∙ ap (λ (v : Collection). v.names ++ more.0) is)
-
-  pub is_held : HoldsList (parts_view q) list_id lines
-  is_held = subst (λ v. HoldsList v list_id lines) (sym added)
-      (subst (HoldsList (with_list list_id entries (parts_view p)) list_id) lines_are (added_holds (parts_view p) list_id entries sound fresh))
-
-  pub are_held : StayRegistered now (parts_view q)
-  are_held other es h = subst (λ v. HoldsList v other es) (sym added)
-      (added_keeps (parts_view p) list_id entries sound fresh other es (subst (λ v. HoldsList v other es) (sym is) h))
+-- no list has an id that is above those of the lists
+pub above_fresh : (p : Parts) (seen : List ListMacros) (list_id : ℕ) → seen ≡ p.lists.items → IsAbove list_id (registered_views seen)
+    → is_registered (parts_view p) list_id ≡ false
+above_fresh p seen list_id is above =
+    let lists = registered_views p.lists.items in
+    lack_registered list_id lists (above_lacks list_id lists (subst (λ ls. IsAbove list_id (registered_views ls)) is above))

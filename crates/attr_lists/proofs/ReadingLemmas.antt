@@ -364,6 +364,6 @@ forgotten_whole bytes start names old new count dropped h e count_is =
     omega (arith, ap length e, length-map new entry_view, length-map (entries_view old) forgotten, length-map old entry_view) in
     let whole : take count (new ++ drop (length new) old) ≡ new =
     ap (λ n. take n (new ++ drop (length new) old)) count_is ∙ refill_whole old new longs in
-    let kept : entries_view new ≡ kept_list bytes = e ∙ ap (map forgotten) h.lines ∙ forgotten_kept names bytes in
+    let kept : entries_view new ≡ kept_list bytes = e ∙ ap (map forgotten) h.numbered.lines ∙ forgotten_kept names bytes in
     subst (λ l. IsReadAs bytes l dropped) (sym whole)
     (record { kept = kept; left_out = h.left_out; valid = ap macros_valid kept ∙ kept_macros_valid bytes })

@@ -4,8 +4,8 @@
 //! Each list is registered under a list id that no other registered list has. A definition belongs to a list, and is
 //! removed with it.
 ghost use Rattle.std.specs.Prelude.{◌≡◌, true, false, ◌<◌, ◌↔◌, length, All, Some, None, nat_lt, if◌then◌else◌, option_map, IfOk, OnOk, OnErr, IfSome, IsSome, IsTrue, slice_get, option_copied};
-ghost use Rattle.attr_lists.specs.Definitions.{definitions_of, last_defined, macro_body, is_registered, with_list, without_list, HoldsList, IsSoundCollection, RegistersAs};
-ghost use Rattle.attr_lists.specs.shared.Reading.{IsReadWith, with_first};
+ghost use Rattle.attr_lists.specs.Definitions.{definitions_of, last_defined, macro_body, without_list, HoldsList, IsSoundCollection, RegistersAs};
+ghost use Rattle.attr_lists.specs.shared.Reading.{IsReadWith, NumbersLines, with_first};
 ghost use Rattle.attr_lists.specs.shared.Keeping.{StayRegistered, OthersStayRegistered, IsNumbered};
 ghost use Rattle.attr_lists.specs.shared.MacroNumbers.{ListsMacros};
 ghost use Rattle.std.specs.Iterator.{YieldsFirstBy, item_count};
@@ -13,7 +13,7 @@ ghost use Rattle.attr_lists.specs.NameViews.{named_body, names_from, named_view,
 ghost use Rattle.attr_lists.specs.KeptLists.{macros_valid};
 ghost use Rattle.attr_lists.specs.ListViews.{entries_view};
 ghost use Rattle.attr_lists.specs.Collections.{empty_collection};
-ghost use Rattle.attr_lists.specs.Numbers.{AppendsNames, number_of, numbered_lines};
+ghost use Rattle.attr_lists.specs.Numbers.{number_of};
 
 mod entry;
 mod macros;
@@ -166,6 +166,34 @@ impl NameTable {
         }
     }
 
+    /// Numbers the lines of a list that defines no macro of a bad name: its items and macros get the numbers of their names, and new
+    /// names get the next numbers.
+    ///
+    /// # Errors
+    ///
+    /// If memory runs out. The table is then as it was, and some lines may have been numbered.
+    pub fn number(
+        &mut self,
+        alloc: Global,
+        mappings: &mut [Mapping<Value>],
+    ) -> Result<(), AllocError>
+        requires { macros_valid (entries_view mappings.old) ≡ true }
+        ensures numbered { OnOk result (NumbersLines (entries_view mappings.old)
+            self.old.names self.new.names (entries_view mappings.new)) }
+        ensures lists { self.new.lists ≡ self.old.lists }
+        ensures sound { IsSoundCollection self.new }
+        ensures err { OnErr result (self.new ≡ self.old) }
+    {
+        let count = self.len();
+        match self.parts.number(alloc, mappings) {
+            Ok(()) => Ok(()),
+            Err(error) => {
+                self.parts.take_back(count);
+                Err(error)
+            }
+        }
+    }
+
     /// Removes the names whose numbers are `count` or greater, which no registered list has. It takes no memory.
     pub fn take_back(&mut self, count: usize)
         requires { IsSoundCollection (with_first count self.old) }
@@ -197,51 +225,10 @@ impl NameTable {
         let Some(list_id) = registered::next_id(&self.parts.lists) else {
             return Err(AllocError);
         };
-        let count = self.len();
         match self.parts.register(alloc, list_id, mappings) {
             Ok(()) => Ok(list_id),
             Err(error) => {
-                self.parts.roll_back(count, list_id);
-                Err(error)
-            }
-        }
-    }
-
-    /// Registers a list and returns its list id, which no registered list has. The list's new names get the next
-    /// numbers, and its items and macros get the numbers of their names. Its definitions come after those of the other
-    /// lists.
-    ///
-    /// # Errors
-    ///
-    /// If memory runs out. The table is then as it was, and some lines may have been numbered.
-    pub fn add(
-        &mut self,
-        alloc: Global,
-        mappings: &mut [Mapping<Value>],
-    ) -> Result<usize, AllocError>
-        requires { macros_valid (entries_view mappings.old) ≡ true }
-        ensures fresh { IfOk result (λ list_id. is_registered self.old list_id ≡ false) }
-        ensures added { IfOk result (λ list_id. self.new
-            ≡ with_list list_id (entries_view mappings.old) self.old) }
-        ensures numbered { OnOk result (entries_view mappings.new
-            ≡ numbered_lines self.new.names (entries_view mappings.old)) }
-        ensures numbers { OnOk result
-            (All (IsNumbered self.new.names) (entries_view mappings.new)) }
-        ensures names { OnOk result (AppendsNames self.old.names self.new.names) }
-        ensures holds { IfOk result
-            (λ list_id. HoldsList self.new list_id (entries_view mappings.new)) }
-        ensures others { OnOk result (StayRegistered self.old self.new) }
-        ensures sound { IsSoundCollection self.new }
-        ensures err { OnErr result (self.new ≡ self.old) }
-    {
-        let Some(list_id) = registered::next_id(&self.parts.lists) else {
-            return Err(AllocError);
-        };
-        let count = self.parts.entries.len();
-        match self.parts.insert(alloc, list_id, mappings) {
-            Ok(()) => Ok(list_id),
-            Err(error) => {
-                self.parts.roll_back(count, list_id);
+                entry::take_back(&mut self.parts.entries, list_id);
                 Err(error)
             }
         }

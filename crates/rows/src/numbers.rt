@@ -33,13 +33,15 @@ impl Numbering {
         Ok(Box::new(alloc, numbering)?)
     }
 
-    // There is room for the list before it is added, so that only the addition can be refused.
+    // The list is added to a copy, so that the table is as it was if memory runs out.
     fn add(&mut self, bytes: &[u8], out: &mut String) -> Result<(), Fault> {
         let alloc = *out.allocator();
         let (mut list, _) = Attributes.bytes_to_patterns(alloc, bytes, "")?;
-        self.added.reserve(1)?;
-        let list_id = self.table.add(alloc, &mut list)?;
+        let mut table = Box::new(alloc, self.table.clone(alloc)?)?;
+        table.number(alloc, &mut list)?;
+        let list_id = table.register(alloc, &list)?;
         self.added.push((list_id, list))?;
+        self.table = table;
         Ok(writeln!(out, "{list_id}")?)
     }
 
@@ -58,7 +60,7 @@ impl Numbering {
     fn holds(&self, alloc: Global, list_id: usize, bytes: &[u8]) -> Result<bool, AllocError> {
         let mut copy = Box::new(alloc, self.table.clone(alloc)?)?;
         let (mut list, _) = Attributes.bytes_to_patterns(alloc, bytes, "")?;
-        copy.add(alloc, &mut list)?;
+        copy.number(alloc, &mut list)?;
         Ok(self.table.holds(list_id, &list))
     }
 

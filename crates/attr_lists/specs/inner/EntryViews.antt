@@ -2,21 +2,13 @@
 use Rattle.std.specs.Prelude.{◌≡◌, ℕ, ◌<◌, List, [], length, map, slice_index_or, All, IsTrue}
 use Rattle.std.specs.List.Sorted.{IsNonDecreasingBy}
 use Rattle.attr_text.specs.Names.{is_valid_name}
-use Rattle.attr_glob.specs.declared.search.pattern.Mapping.{Mapping}
 use Rattle.attr_lists.specs.declared.name_table.entry.Definition.{Definition}
 use Rattle.attr_lists.specs.declared.name_table.entry.NameEntry.{NameEntry}
-use Rattle.attr_lists.specs.ListViews.{Entry, entries_view}
-use Rattle.attr_lists.specs.Numbers.{numbered_lines}
-use Rattle.attr_lists.specs.declared.types.Value.{Value}
 use Rattle.attr_lists.specs.Collections.{MacroDefinition}
 
 -- each is a valid name
 abbrev pub AreValid : List (List ℕ) → Type 0
 AreValid names = All (λ name. IsTrue (is_valid_name name)) names
-
--- the lines of a list, with the numbers that these names have
-abbrev pub numbered_view : List (List ℕ) → List (Mapping Value) → List Entry
-numbered_view names mappings = numbered_lines names (entries_view mappings)
 
 abbrev pub definition_view : Definition → MacroDefinition
 definition_view d = record { list_id = d.list_id; body = d.metadata.value.macro_attributes.items }

@@ -28,7 +28,7 @@ pub record AreWhole (p : Parts) : Type 0 where
 abbrev pub IsNameTable : Inside → Type 0
 IsNameTable table = AreWhole table.parts
 
--- what is left of reading lines that ran out of memory: some of their names
+-- what is left of lines that were being numbered when memory ran out: some of their names
 pub record IsPartlyRead (old new : Parts) : Type 0 where
   pub names : AppendsNames old.names new.names
   pub counted : length old.entries.items ≤ length new.entries.items
@@ -37,10 +37,10 @@ pub record IsPartlyRead (old new : Parts) : Type 0 where
   pub lists : new.lists.items ≡ old.lists.items
   pub macros : new.macros ≡ old.macros
 
--- what is left of an addition that ran out of memory: some of the list's names and definitions
-pub record IsPartlyAdded (list_id : ℕ) (old new : Parts) : Type 0 where
-  pub names : AppendsNames old.names new.names
-  pub counted : length old.entries.items ≤ length new.entries.items
+-- what is left of a list that was being registered when memory ran out: some of its definitions
+pub record IsPartlyRegistered (list_id : ℕ) (old new : Parts) : Type 0 where
+  pub names : new.names ≡ old.names
+  pub counted : length new.entries.items ≡ length old.entries.items
   pub entries : AreEntries new.entries.items
   pub definitions : KeepsOtherDefinitions list_id old.entries.items new.entries.items
   pub lists : new.lists.items ≡ old.lists.items

@@ -3,7 +3,7 @@ use Rattle.std.specs.Prelude.{◌≡◌, ℕ, Bool, List, Result, Ok, Err, Match
 use Rattle.attr_glob.specs.declared.search.pattern.Mapping.{Mapping}
 use Rattle.attr_lists.specs.Collections.{Collection}
 use Rattle.attr_lists.specs.KeptLists.{kept_list_where, dropped_lines}
-use Rattle.attr_lists.specs.ListViews.{entries_view}
+use Rattle.attr_lists.specs.ListViews.{Entry, entries_view}
 use Rattle.attr_lists.specs.Numbers.{AppendsNames, names_in, numbered_lines, with_names}
 use Rattle.attr_lists.specs.declared.types.Dropped.{Dropped}
 use Rattle.attr_lists.specs.declared.types.Value.{Value}
@@ -16,11 +16,15 @@ ReadsNumbered names number plain old new read =
     (λ x. (new ≡ with_names old (names x)) × (read ≡ Ok (number new x)))
     (λ refusal. AppendsNames old new × (read ≡ Err refusal))
 
--- the lines of a list that are kept of a buffer have the numbers of their names, of which new ones were inserted in order
+-- the lines have the numbers of their names, of which new ones were inserted in order
+pub record NumbersLines (entries : List Entry) (old new : List (List ℕ)) (now : List Entry) : Type 0 where
+  pub names : new ≡ with_names old (names_in entries)
+  pub lines : now ≡ numbered_lines new entries
+
+-- the lines that a list keeps of a buffer were read with the numbers of their names, and the others were dropped
 pub record IsReadWith (allow_macros : Bool) (bytes : List ℕ) (old new : List (List ℕ)) (mappings : List (Mapping Value))
     (dropped : List Dropped) : Type 0 where
-  pub names : new ≡ with_names old (names_in (kept_list_where allow_macros bytes))
-  pub lines : entries_view mappings ≡ numbered_lines new (kept_list_where allow_macros bytes)
+  pub numbered : NumbersLines (kept_list_where allow_macros bytes) old new (entries_view mappings)
   pub left_out : dropped ≡ dropped_lines bytes
 
 -- a collection with the first of its names alone

@@ -3,11 +3,10 @@ ghost use Rattle.std.specs.Prelude.{◌≡◌, [], ◌∷◌, true, map, IfOk, O
 ghost use Rattle.attr_text.specs.Names.{is_valid_name};
 ghost use Rattle.attr_lists.specs.KeptLists.{macro_valid, macros_valid};
 ghost use Rattle.attr_lists.specs.Definitions.{macros_defined};
-ghost use Rattle.attr_lists.specs.inner.EntryViews.{numbered_view};
 ghost use Rattle.attr_lists.specs.inner.Registered.{numbered_body};
 ghost use Rattle.attr_lists.specs.inner.NameSteps.{InsertsNames};
 ghost use Rattle.attr_lists.specs.ListViews.{entry_view, entries_view};
-ghost use Rattle.attr_lists.specs.Numbers.{names_of, names_in, number_of, numbered_item, numbered};
+ghost use Rattle.attr_lists.specs.Numbers.{names_of, names_in, number_of, numbered_item, numbered, numbered_lines};
 
 use crate::name_table::name_set::NameSet;
 use crate::types::{Assignments, AttributeId, Metadata, TrackedAssignment, Value, cloned};
@@ -30,8 +29,8 @@ pub(super) fn number_list(
     requires { macros_valid (entries_view mappings.old) ≡ true }
     ensures inserted { InsertsNames result
         (names_in (entries_view mappings.old)) names.old names.new }
-    ensures numbered { OnOk result
-        (entries_view mappings.new ≡ numbered_view names.new mappings.old) }
+    ensures numbered { OnOk result (entries_view mappings.new
+        ≡ numbered_lines names.new (entries_view mappings.old)) }
 {
     for mapping in mappings.iter_mut() {
         number_line(alloc, names, mapping)?;

@@ -2,13 +2,11 @@
 ghost use Rattle.std.specs.Prelude.{◌≡◌, ◌↔◌, true, length, take, All, IfOk, OnOk, OnErr, IsTrue};
 ghost use Rattle.attr_lists.specs.Definitions.{with_list, without_list, HoldsList};
 ghost use Rattle.attr_lists.specs.shared.Keeping.{IsNumbered};
-ghost use Rattle.attr_lists.specs.shared.Reading.{IsReadWith};
+ghost use Rattle.attr_lists.specs.shared.Reading.{IsReadWith, NumbersLines};
 ghost use Rattle.attr_lists.specs.KeptLists.{macros_valid};
 ghost use Rattle.attr_lists.specs.ListViews.{entries_view};
-ghost use Rattle.attr_lists.specs.inner.EntryViews.{numbered_view};
 ghost use Rattle.attr_lists.specs.inner.Registered.{IsAbove, registered_views};
-ghost use Rattle.attr_lists.specs.inner.NameTableView.{parts_view, AreWhole, IsPartlyAdded, IsPartlyRead};
-ghost use Rattle.attr_lists.specs.declared.name_table.parts.Parts.{Parts};
+ghost use Rattle.attr_lists.specs.inner.NameTableView.{parts_view, AreWhole, IsPartlyRead, IsPartlyRegistered};
 
 use crate::name_table::entry::NameEntry;
 use crate::name_table::name_set::NameSet;
@@ -70,31 +68,26 @@ impl Parts {
         Ok(read)
     }
 
-    /// Numbers a list, and registers it under a fresh list id.
+    /// Numbers the lines of a list. New names get entries.
     ///
     /// # Errors
     ///
-    /// If memory runs out. Some names and definitions may have been added then, which `roll_back` removes, and some lines
-    /// numbered.
-    pub(super) fn insert(
+    /// If memory runs out. Some names may have been added then, which `take_back` removes, and some lines numbered.
+    pub(super) fn number(
         &mut self,
         alloc: Global,
-        list_id: usize,
         mappings: &mut [Mapping<Value>],
     ) -> Result<(), AllocError>
         requires valid { macros_valid (entries_view mappings.old) ≡ true }
         requires whole { AreWhole self.old }
-        requires above { IsAbove list_id (registered_views self.old.lists.items) }
-        ensures added { OnOk result (parts_view self.new
-            ≡ with_list list_id (entries_view mappings.old) (parts_view self.old)) }
-        ensures numbered { OnOk result (entries_view mappings.new
-            ≡ numbered_view self.new.names mappings.old) }
+        ensures numbered { OnOk result (NumbersLines (entries_view mappings.old)
+            self.old.names self.new.names (entries_view mappings.new)) }
         ensures whole { OnOk result (AreWhole self.new) }
-        ensures err { OnErr result (IsPartlyAdded list_id self.old self.new) }
+        ensures lists { self.new.lists ≡ self.old.lists }
+        ensures err { OnErr result (IsPartlyRead self.old self.new) }
     {
         numbers::number_list(alloc, &mut self.names, mappings)?;
         entry::extend(alloc, &mut self.entries, self.names.len())?;
-        self.register(alloc, list_id, mappings)?;
         Ok(())
     }
 
@@ -102,7 +95,7 @@ impl Parts {
     ///
     /// # Errors
     ///
-    /// If memory runs out. Some definitions may have been added then, which `roll_back` removes.
+    /// If memory runs out. Some definitions may have been added then, which `entry::take_back` removes.
     pub(super) fn register(
         &mut self,
         alloc: Global,
@@ -115,24 +108,13 @@ impl Parts {
         ensures added { OnOk result (parts_view self.new
             ≡ with_list list_id (entries_view mappings.now) (parts_view self.old)) }
         ensures whole { OnOk result (AreWhole self.new) }
-        ensures err { OnErr result (IsPartlyAdded list_id self.old self.new) }
+        ensures err { OnErr result (IsPartlyRegistered list_id self.old self.new) }
     {
         let macros = numbers::macros_of(alloc, mappings)?;
         macros::insert_macros(&mut self.macros, &macros)?;
         entry::define_list(&mut self.entries, list_id, &macros)?;
         self.lists.push(ListMacros { list_id, macros })?;
         Ok(())
-    }
-
-    /// Removes the names whose numbers are `count` or greater, and all definitions of a list.
-    pub(super) fn roll_back(&mut self, count: usize, list_id: usize)
-        ensures back { (start : Parts) → IsPartlyAdded list_id start self.old →
-            count ≡ length start.names → AreWhole start →
-            IsAbove list_id (registered_views start.lists.items) →
-            (parts_view self.new ≡ parts_view start) × AreWhole self.new }
-    {
-        self.take_back(count);
-        entry::take_back(&mut self.entries, list_id);
     }
 
     /// Removes the names whose numbers are `count` or greater, and their entries.

@@ -143,10 +143,13 @@ impl MetadataCollection {
         ensures source { list.new.source ≡ list.old.source }
         ensures base { list.new.base ≡ list.old.base }
     {
-        // A collection is sound.
-        prove!(self.len() <= usize::MAX);
+        let count = self.len();
         let mut numbered = list.clone(alloc)?;
-        self.numbering.add(alloc, &mut numbered.patterns)?;
+        self.numbering.number(alloc, &mut numbered.patterns)?;
+        if let Err(error) = self.numbering.register(alloc, &numbered.patterns) {
+            self.numbering.take_back(count);
+            return Err(error);
+        }
         mem::swap(&mut list.patterns, &mut numbered.patterns);
         Ok(())
     }

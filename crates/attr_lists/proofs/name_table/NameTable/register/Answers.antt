@@ -1,38 +1,42 @@
-use Rattle.std.proofs.Common.{◌≡◌, ◌∙◌, All, ap, subst, sym}
-use Rattle.attr_lists.specs.Collections.{Collection}
-use Rattle.attr_lists.specs.Definitions.{with_list}
+use Rattle.std.proofs.Common.{◌≡◌, ◌∙◌, ap, arith, false, length, map, refl, subst, sym}
+use Rattle.std.proofs.lemmas.List.{with_items_is}
+use Rattle.attr_lists.specs.Definitions.{is_registered, of_other_lists, with_list, IsSoundCollection}
 use Rattle.attr_lists.specs.ListViews.{entries_view}
-use Rattle.attr_lists.specs.Numbers.{numbered_lines}
+use Rattle.attr_lists.specs.inner.EntryViews.{all_definitions, AreEntries}
 use Rattle.attr_lists.specs.inner.NameTableView.{parts_view}
-use Rattle.attr_lists.specs.shared.Keeping.{IsNumbered}
-use Rattle.attr_lists.proofs.FreshNames.{numbered_still}
-use Rattle.attr_lists.proofs.NameTableSteps.{are_held, is_fresh, is_held}
+use Rattle.attr_lists.specs.inner.Registered.{registered_views, IsAbove}
+use Rattle.attr_lists.proofs.FreshNames.{lines_held, stay_registered}
+use Rattle.attr_lists.proofs.NameTableSteps.{above_fresh, taken_back}
 use Rattle.attr_lists.proofs.name_table.NameTable.register.Goals as goal
-
--- the lines have the numbers that their names have after it
-numbers_are : (c : goal.In-Ok) → entries_view c.args.mappings.now ≡ numbered_lines c.register.new.self.names (entries_view c.args.mappings.now)
-numbers_are c =
-    let lines = entries_view c.args.mappings.now in (
-    numbered_still c.in-Some.list_id lines (parts_view c.self.inside.parts) (parts_view c.register.new.self) c.self.invariant.sound.distinct
-    (subst (λ (known : Collection). All (IsNumbered known.names) lines) (sym c.self.view_is) c.requires.numbered) c.in-Ok.ensures.added
-    ).1
 
 pub returns-in-Ok-clause-registered : goal.returns-in-Ok-clause-registered
 returns-in-Ok-clause-registered c = record {
-  fresh = is_fresh c.self.inside.parts c.register.new.self c.args.self.now c.deref.result.now c.in-Some.list_id (entries_view c.args.mappings.now)
-      (entries_view c.args.mappings.now) c.self.view_is c.deref.ensures.value c.in-Some.ensures c.in-Ok.ensures.added (numbers_are c)
-      c.self.invariant.sound;
+  fresh = subst (λ known. is_registered known c.in-Some.list_id ≡ false) c.self.view_is
+      (above_fresh c.self.inside.parts c.deref.result.now c.in-Some.list_id c.deref.ensures.value c.in-Some.ensures);
   added = c.in-Ok.ensures.added ∙ ap (with_list c.in-Some.list_id (entries_view c.args.mappings.now)) c.self.view_is;
 }
 
 pub returns-in-Ok-clause-holds : goal.returns-in-Ok-clause-holds
 returns-in-Ok-clause-holds c =
-    is_held c.self.inside.parts c.register.new.self c.args.self.now c.deref.result.now c.in-Some.list_id (entries_view c.args.mappings.now)
-    (entries_view c.args.mappings.now) c.self.view_is c.deref.ensures.value c.in-Some.ensures c.in-Ok.ensures.added (numbers_are c)
-    c.self.invariant.sound
+    lines_held c.in-Some.list_id (entries_view c.args.mappings.now) c.args.self.now (parts_view c.register.new.self)
+    (subst IsSoundCollection c.self.view_is c.self.invariant.sound) c.requires.numbered (returns-in-Ok-clause-registered c)
 
 pub returns-in-Ok-clause-others : goal.returns-in-Ok-clause-others
 returns-in-Ok-clause-others c =
-    are_held c.self.inside.parts c.register.new.self c.args.self.now c.deref.result.now c.in-Some.list_id (entries_view c.args.mappings.now)
-    (entries_view c.args.mappings.now) c.self.view_is c.deref.ensures.value c.in-Some.ensures c.in-Ok.ensures.added (numbers_are c)
-    c.self.invariant.sound
+    stay_registered c.in-Some.list_id (entries_view c.args.mappings.now) c.args.self.now (parts_view c.register.new.self)
+    (subst IsSoundCollection c.self.view_is c.self.invariant.sound) (returns-in-Ok-clause-registered c)
+
+-- the definitions are taken back
+pub invariant_of-self-in-Err : goal.invariant_of-self-in-Err
+invariant_of-self-in-Err c =
+    let mid = c.register.new.self in
+    let id = c.in-Some.list_id in
+    let seen = c.deref_mut.ensures.value in
+    let kept : length c.take_back.new.entries ≡ mid.entries.len =
+    omega (arith, c.take_back.auto.entries, ap length seen, mid.entries.ok.0) in
+    let items = with_items_is mid.entries c.take_back.new.entries kept in (
+    taken_back c.self.inside.parts mid _ id c.in-Err.ensures.err c.self.invariant
+    (subst (λ ls. IsAbove id (registered_views ls)) c.deref.ensures.value c.in-Some.ensures) refl
+    (ap all_definitions items ∙ c.take_back.ensures.definitions ∙ ap (λ l. map (of_other_lists id) (all_definitions l)) seen)
+    (λ are. subst AreEntries (sym items) (c.take_back.ensures.entries (subst AreEntries (sym seen) are))) refl refl
+    ).1

@@ -15,7 +15,7 @@ pub returns-in_err-extend-clause-err : goal.returns-in_err-extend-clause-err
 returns-in_err-extend-clause-err c =
     let more = with_names-extends c.args.self.now.names (names_in (kept_list_where c.args.allow_macros c.args.bytes.now)) in
     on_err c.from_residual-in_err-extend.result _ (record {
-      names = (more.0, c.in_ok-read.ensures.read.names ∙ more.1);
+      names = (more.0, c.in_ok-read.ensures.read.numbered.names ∙ more.1);
       counted = c.extend.ensures.more;
       entries = c.extend.ensures.entries c.requires.whole.entries;
       definitions = c.extend.ensures.definitions;
@@ -28,5 +28,5 @@ returns-clause-whole c =
     let p = c.args.self.now in
     let q : Parts = record { names = c.read_buffer.new.names; entries = c.extend.new.entries; lists = p.lists; macros = p.macros } in
     named_whole p q (names_in (kept_list_where c.args.allow_macros c.args.bytes.now)) c.requires.whole
-    c.in_ok-read.ensures.read.names c.len.ensures.valid refl
+    c.in_ok-read.ensures.read.numbered.names c.len.ensures.valid refl
     (c.in_ok-extend.ensures.ok ∙ c.len.ensures.count) (c.extend.ensures.entries c.requires.whole.entries) c.extend.ensures.definitions refl

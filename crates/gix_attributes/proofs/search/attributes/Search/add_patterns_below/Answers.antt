@@ -1,20 +1,16 @@
-use Rattle.std.proofs.Common.{◌≡◌, arith, ℕ, Bool, List, ◌∙◌, sym, ap, subst, ◌++◌, ◌∷◌, [], length, option_map}
+use Rattle.std.proofs.Common.{◌≡◌, arith, List, ◌∙◌, sym, ap, subst, ◌++◌, ◌∷◌, [], option_map}
 use Rattle.std.specs.Prelude.{string_bytes}
 use Rattle.std.proofs.lemmas.List.{map-append}
 use Rattle.std.proofs.lemmas.Bool.Decides.{nat_tests}
 use Rattle.std.specs.Cmp.{nat_eq_equiv}
 use Rattle.attr_glob.specs.Views.{base_bytes}
-use Rattle.attr_glob.specs.declared.search.pattern.Mapping.{Mapping}
 use Rattle.attr_lists.specs.Collections.{Collection}
 use Rattle.attr_lists.specs.Definitions.{HoldsList, IsSoundCollection, RegistersAs}
 use Rattle.attr_lists.specs.KeptLists.{kept_list_where}
 use Rattle.attr_lists.specs.ListViews.{Entry, entries_view}
-use Rattle.attr_lists.specs.Numbers.{names_in, numbered_lines}
+use Rattle.attr_lists.specs.Numbers.{numbered_lines}
 use Rattle.attr_lists.specs.shared.Keeping.{StayRegistered}
-use Rattle.attr_lists.specs.shared.Reading.{IsReadWith, with_first}
-use Rattle.attr_lists.specs.declared.types.Dropped.{Dropped}
-use Rattle.attr_lists.specs.declared.types.Value.{Value}
-use Rattle.attr_lists.proofs.ForCallers.{lines_numbered_by, names_back, registers_read}
+use Rattle.attr_lists.proofs.ForCallers.{lines_numbered_by, names_back, registers_numbered, stay_registered}
 use Rattle.attr_search.specs.declared.indexed_list.IndexedList.{IndexedList}
 use Rattle.attr_search.specs.shared.ReadLines.{AreRead}
 use Rattle.attr_search.proofs.ForCallers.{numbered_read, on_err}
@@ -26,40 +22,33 @@ use Rattle.gix_attributes.proofs.ReadLemmas.{kept_list_where-read}
 use Rattle.gix_attributes.proofs.search.attributes.Search.add_patterns_below.Goals as goal
 use Rattle.gix_attributes.proofs.search.attributes.Search.add_patterns_below.Goals.{After-push_reserved}
 
--- the collection without the names that were read is the one that was passed
-back : (allow_macros : Bool) (bytes : List ℕ) (before mid : Collection) (mappings : List (Mapping Value)) (dropped : List Dropped) (count : ℕ)
-    → count ≡ length before.names → IsReadWith allow_macros bytes before.names mid.names mappings dropped → mid.lists ≡ before.lists
-    → with_first count mid ≡ before
-back allow_macros bytes before mid mappings dropped count is read lists =
-    ap (λ n. with_first n mid) is ∙ names_back before mid (names_in (kept_list_where allow_macros bytes)) read.names lists
-
 pub register-requires : goal.register-requires
 register-requires c =
     let kept = kept_list_where c.args.allow_macros c.args.bytes.now in
     let ensured = c.in_ok-patterns.ensures in
     record {
-      numbered = lines_numbered_by c.args.collection.now.names c.read_lines.new.self.names kept
-          (entries_view c.in_ok-patterns.patterns.items) ensured.read.names ensured.read.lines;
-      read = subst AreRead (sym ensured.read.lines)
+      numbered = lines_numbered_by kept c.args.collection.now.names c.read_lines.new.self.names
+          (entries_view c.in_ok-patterns.patterns.items) ensured.read.numbered;
+      read = subst AreRead (sym ensured.read.numbered.lines)
           (numbered_read c.read_lines.new.self.names kept (kept_list_where-read c.args.allow_macros c.args.bytes.now));
-      first = subst IsSoundCollection (sym (back c.args.allow_macros c.args.bytes.now c.args.collection.now c.read_lines.new.self _ _
-          c.len-count.result c.len-count.ensures.count ensured.read ensured.lists)) c.len-count.ensures.sound;
+      first = subst IsSoundCollection (sym (names_back kept (entries_view c.in_ok-patterns.patterns.items) c.args.collection.now
+          c.read_lines.new.self c.len-count.result c.len-count.ensures.count ensured.read.numbered ensured.lists)) c.len-count.ensures.sound;
     }
 
 pub returns-in_err-indexed-clause-unchanged : goal.returns-in_err-indexed-clause-unchanged
 returns-in_err-indexed-clause-unchanged c =
     let same : c.register.new.self ≡ c.args.collection.now =
     c.in_err-indexed.ensures.refused
-    ∙ back c.args.allow_macros c.args.bytes.now c.args.collection.now c.read_lines.new.self _ _ c.len-count.result c.len-count.ensures.count
-    c.in_ok-patterns.ensures.read c.in_ok-patterns.ensures.lists in
+    ∙ names_back (kept_list_where c.args.allow_macros c.args.bytes.now) (entries_view c.in_ok-patterns.patterns.items) c.args.collection.now
+    c.read_lines.new.self c.len-count.result c.len-count.ensures.count c.in_ok-patterns.ensures.read.numbered c.in_ok-patterns.ensures.lists in
     on_err c.from_residual-in_err-indexed.result same
 
 pub returns-in_err-indexed-clause-held : goal.returns-in_err-indexed-clause-held
 returns-in_err-indexed-clause-held c held =
     let same : c.register.new.self ≡ c.args.collection.now =
     c.in_err-indexed.ensures.refused
-    ∙ back c.args.allow_macros c.args.bytes.now c.args.collection.now c.read_lines.new.self _ _ c.len-count.result c.len-count.ensures.count
-    c.in_ok-patterns.ensures.read c.in_ok-patterns.ensures.lists in
+    ∙ names_back (kept_list_where c.args.allow_macros c.args.bytes.now) (entries_view c.in_ok-patterns.patterns.items) c.args.collection.now
+    c.read_lines.new.self c.len-count.result c.len-count.ensures.count c.in_ok-patterns.ensures.read.numbered c.in_ok-patterns.ensures.lists in
     let lists = c.reserve.new.self.lists.items in
     held_views c.register.new.self lists (subst (λ known. AreHeldLists known lists) (sym same)
     (subst (AreHeldLists c.args.collection.now) (sym c.in_ok-reserve.ensures.lists)
@@ -76,14 +65,16 @@ is_added : (c : After-push_reserved) → IsAdded c.args.collection.now c.registe
     (kept_list_where c.args.allow_macros c.args.bytes.now) c.in_ok-indexed.indexed
 is_added c =
     let own = c.in_ok-indexed.ensures.registered in
-    let facts = registers_read c.args.allow_macros c.args.bytes.now c.args.collection.now c.read_lines.new.self c.register.new.self
-    c.in_ok-indexed.indexed.list_id c.in_ok-patterns.patterns.items c.in_ok-patterns.dropped.items c.in_ok-patterns.ensures.sound.0
-    c.in_ok-patterns.ensures.sound.1 c.in_ok-patterns.ensures.read c.in_ok-patterns.ensures.lists own.registered in
+    let list_id = c.in_ok-indexed.indexed.list_id in
+    let kept = kept_list_where c.args.allow_macros c.args.bytes.now in
+    let ensured = c.in_ok-patterns.ensures in
+    let facts = registers_numbered list_id kept (entries_view c.in_ok-patterns.patterns.items) c.args.collection.now c.read_lines.new.self
+    c.register.new.self ensured.sound.0 ensured.sound.1 ensured.read.numbered ensured.lists own.registered in
     record {
       registered = facts.0;
-      lines = ap (λ l. entries_view l.patterns.items) own.same ∙ facts.1;
+      lines = ap (λ l. entries_view l.patterns.items) own.same ∙ facts.1.lines;
       holds = subst (λ l. HoldsList c.register.new.self c.in_ok-indexed.indexed.list_id (entries_view l.patterns.items)) (sym own.same) own.holds;
-      others = facts.2;
+      others = stay_registered list_id kept c.args.collection.now c.register.new.self ensured.sound.0 facts.0;
     }
 
 pub returns-clause-list : goal.returns-clause-list
