@@ -53,14 +53,15 @@ fn push_entry(
     ensures { OnOk result (held.new
         ≡ held.old ++ match_entry question.entry engine.now (match_view one.entry)) }
 {
+    let path = question.asked.path.as_bytes();
     match question.form {
-        Form::Line => push_line(held, question.path, one.assignment),
+        Form::Line => push_line(held, path, one.assignment),
         Form::Zero => {
-            push_answer(held, question.path, b"\0", one.assignment)?;
+            push_answer(held, path, b"\0", one.assignment)?;
             held.push(b"\0")
         }
         Form::Origin => {
-            push_answer(held, question.path, b": ", one.assignment)?;
+            push_answer(held, path, b": ", one.assignment)?;
             held.push(b"\t")?;
             push_origin(alloc, held, engine, one)?;
             held.push(b"\n")

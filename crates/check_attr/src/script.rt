@@ -9,10 +9,11 @@ ghost use Rattle.gix_attributes.specs.LinesJoined.{line_feed};
 ghost use Rattle.check_attr.specs.inner.ScriptParts.{IsFirstRecord, IsNumberBefore, choice_of, cases, directory_flags, forms, macro_flags, split_once, split_at, if_text, is_number, digits_value, most_digits, number_before, root_length, root_of, addition_of, add_record, names_record, ask_record, text_lines, ◌then◌};
 ghost use Rattle.check_attr.specs.inner.ScriptViews.{lines_view, part_view, record_view, with_rest};
 
+use bstr::BStr;
+use gix_attributes::engine;
 use gix_attributes::engine::Addition;
 use gix_attributes::glob::pattern::Case;
 use std::alloc::{AllocError, Global};
-use std::str;
 
 // How many digits a number may have. A longer number is malformed.
 const MOST_DIGITS: usize = 8;
@@ -46,12 +47,8 @@ pub enum Record<'a> {
 pub struct Question<'a> {
     /// The form of the answers.
     pub form: Form,
-    /// Whether the case of ASCII letters matters.
-    pub case: Case,
-    /// Whether the path is a directory, if that is known.
-    pub is_dir: Option<bool>,
-    /// The path, relative to the root of the repository.
-    pub path: &'a [u8],
+    /// What the engine is asked.
+    pub asked: engine::Question<'a>,
 }
 
 /// Parses the first record, and returns it with the bytes after it, or none if it is malformed.
@@ -128,13 +125,12 @@ fn ask_record(bytes: &[u8]) -> Option<(Record<'_>, &[u8])>
     let [b'\n', rest @ ..] = rest else {
         return None;
     };
-    let question = Question {
-        form,
+    let asked = engine::Question {
+        path: BStr::from(path),
         case,
         is_dir,
-        path,
     };
-    Some((Record::Ask(question), rest))
+    Some((Record::Ask(Question { form, asked }), rest))
 }
 
 fn names_record(alloc: Global, bytes: &[u8]) -> Result<Option<(Record<'_>, &[u8])>, AllocError>
@@ -144,10 +140,8 @@ fn names_record(alloc: Global, bytes: &[u8]) -> Result<Option<(Record<'_>, &[u8]
     let Some((count, rest)) = number_before(b'\n', bytes) else {
         return Ok(None);
     };
-    match text_lines(alloc, count, rest)? {
-        Some((lines, rest)) => Ok(Some((Record::Names(lines), rest))),
-        None => Ok(None),
-    }
+    let read = text_lines(alloc, count, rest)?;
+    Ok(read.map(|(lines, rest)| (Record::Names(lines), rest)))
 }
 
 fn macro_flag(bytes: &[u8]) -> Option<(bool, &[u8])>

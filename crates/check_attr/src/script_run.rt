@@ -18,8 +18,6 @@ use crate::held::Held;
 use crate::reading::{Pull, read_all};
 use crate::script::{Question, Record, record_of};
 use crate::writing::{Push, write_all};
-use bstr::BStr;
-use gix_attributes::engine;
 use gix_attributes::engine::Engine;
 use std::alloc::Global;
 
@@ -197,11 +195,6 @@ fn ask<W: Push>(
     ensures text { PassesAnswers W.contents W.failed W.stalled engine.old.state
         (question_view question.entry) writer.old writer.new held.old held.new result }
 {
-    let asked = engine::Question {
-        path: BStr::from(question.path),
-        case: question.case,
-        is_dir: question.is_dir,
-    };
-    engine.ask(alloc, asked)?;
+    engine.ask(alloc, question.asked)?;
     pass_answers(alloc, writer, held, question, engine)
 }

@@ -150,13 +150,10 @@ pub(crate) fn write_bytes<W: Push>(writer: &mut W, text: &[u8]) -> Result<(), Fa
 {
     let mut written = 0;
     while written < text.len() {
-        let Ok(count) = writer.write(&text[written..]) else {
-            return Err(Fault::Write);
-        };
-        if count == 0 {
-            return Err(Fault::Write);
+        match writer.write(&text[written..]) {
+            Ok(0) | Err(_) => return Err(Fault::Write),
+            Ok(count) => written += count,
         }
-        written += count;
     }
     Ok(())
 }

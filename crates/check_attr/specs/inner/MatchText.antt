@@ -7,4 +7,4 @@ use Rattle.check_attr.specs.declared.script.Question.{Question}
 
 -- the entry of a match, for a question that borrows from a script, by the names of an engine
 abbrev pub match_entry : Question → EngineContent → Matched → List ℕ
-match_entry q held m = entry_text q.form held.state.names q.path.now m
+match_entry q held m = entry_text q.form held.state.names q.asked.path.bytes.now m

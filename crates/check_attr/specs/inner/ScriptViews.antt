@@ -9,7 +9,7 @@ use Rattle.check_attr.specs.declared.script.Record.{Record}
 use Rattle.check_attr.specs.declared.script.Record.TheVariants.{Add, Pop, Names, Ask}
 
 abbrev pub question_view : Question → ReadQuestion
-question_view q = record { form = q.form; case = q.case; is_dir = q.is_dir; path = q.path.now }
+question_view q = record { form = q.form; case = q.asked.case; is_dir = q.asked.is_dir; path = q.asked.path.bytes.now }
 
 abbrev pub record_view : Record → ReadRecord
 record_view (Add a) = add (addition_view a)

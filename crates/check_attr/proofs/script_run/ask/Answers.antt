@@ -1,7 +1,6 @@
-use Rattle.std.proofs.Common.{[], subst}
+use Rattle.std.proofs.Common.{[]}
 use Rattle.std.specs.Prelude.{unwrap_or}
 use Rattle.std.specs.List.{flat_map}
-use Rattle.gix_attributes.specs.EngineStates.{AnswersTo}
 use Rattle.check_attr.specs.Script.{ask}
 use Rattle.check_attr.specs.ScriptText.{entry_text}
 use Rattle.check_attr.specs.inner.ScriptViews.{question_view}
@@ -18,9 +17,8 @@ pub returns-clause-text : goal.returns-clause-text
 returns-clause-text g c =
     let q = question_view c.args.question in
     let before = c.args.engine.now in
-    let after = c.ask.new.self in
-    let found = subst (λ path. AnswersTo path q.case q.is_dir before after) c.from.ensures c.in_ok-ask.ensures.answers in (
+    let after = c.ask.new.self in (
       flat_map (entry_text q.form after.state.names q.path) (unwrap_or after.answers []),
-      answer_text_of q before after found,
+      answer_text_of q before after c.in_ok-ask.ensures.answers,
       c.pass_answers.ensures,
     )
