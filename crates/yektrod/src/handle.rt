@@ -4,7 +4,7 @@ ghost use Rattle.std.specs.Prelude.{◌≡◌, Bool, true, false};
 ghost use Rattle.std.specs.Borrow.{sem};
 ghost use Rattle.yektrod.specs.SourcedContents.{SourcedContent};
 
-mod parts;
+pub mod parts;
 
 use crate::sourced::SourcedEngine;
 use parts::Parts;
@@ -39,22 +39,6 @@ impl Model for Handle {
 impl Handle {
     ghost use Rattle.yektrod.specs.inner.Lent.{LendsEngine};
 
-    /// The handle of an engine.
-    pub fn of(engine: Box<SourcedEngine>) -> Handle
-        ensures opened { result.is_open ≡ true }
-        ensures held { result.held ≡ engine.value }
-    {
-        Handle::of_parts(Parts::of(engine))
-    }
-
-    /// The engine of a handle that has one.
-    pub fn into_box(self) -> Box<SourcedEngine>
-        requires { self.is_open ≡ true }
-        ensures { result.value ≡ self.held }
-    {
-        self.into_parts().into_box()
-    }
-
     /// The engine of a handle that has one, in place.
     pub fn engine(&mut self) -> &mut SourcedEngine
         requires { self.old.is_open ≡ true }
@@ -74,7 +58,8 @@ impl Handle {
         }
     }
 
-    fn of_parts(parts: Parts<SourcedEngine, Global>) -> Handle
+    /// The handle of an engine, whose box was taken apart.
+    pub fn of_parts(parts: Parts<SourcedEngine, Global>) -> Handle
         ensures opened { result.is_open ≡ true }
         ensures held { result.held ≡ parts.value }
     {
@@ -85,7 +70,8 @@ impl Handle {
         }
     }
 
-    fn into_parts(self) -> Parts<SourcedEngine, Global>
+    /// The parts of the box of an engine, of a handle that has one.
+    pub fn into_parts(self) -> Parts<SourcedEngine, Global>
         requires { self.is_open ≡ true }
         ensures { result.value ≡ self.held }
     {

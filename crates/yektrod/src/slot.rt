@@ -3,6 +3,7 @@
 ghost use Rattle.std.specs.Prelude.{◌≡◌, false};
 
 use crate::handle::Handle;
+use crate::handle::parts::Parts;
 use crate::sourced::SourcedEngine;
 use std::alloc::Global;
 use std::mem::replace;
@@ -34,7 +35,7 @@ impl Slot {
         ensures { sourced self.new ≡ Some engine.value }
     {
         *self = Slot {
-            handle: Handle::of(engine),
+            handle: Handle::of_parts(Parts::of(engine)),
             live: true,
         };
     }
@@ -51,7 +52,7 @@ impl Slot {
             handle: Handle::shut(alloc),
             live: false,
         };
-        Some(replace(self, nothing).into_handle().into_box())
+        Some(replace(self, nothing).into_handle().into_parts().into_box())
     }
 
     fn into_handle(self) -> Handle
