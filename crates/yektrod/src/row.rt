@@ -2,7 +2,7 @@
 
 ghost use Rattle.std.specs.Prelude.{◌≡◌, is_some, option_map, unwrap_or, if◌then◌else◌};
 ghost use Rattle.gix_attributes.specs.Matches.{match_view};
-ghost use Rattle.yektrod.specs.RowsTold.{flags_by, none, row_with};
+ghost use Rattle.yektrod.specs.RowsTold.{none, row_with};
 ghost use Rattle.yektrod.specs.Sourced.{list_number};
 ghost use Rattle.yektrod.specs.inner.TextViews.{texts_view};
 
@@ -59,11 +59,9 @@ impl Row {
         let cause = found.kind.source_id();
         Row {
             state: number_of_state(found.assignment.state),
-            flags: flags_of(
-                matches!(found.kind, MatchKind::Macro { .. }),
-                found.location.source.is_some(),
-                cause.is_some(),
-            ),
+            flags: u32::from(matches!(found.kind, MatchKind::Macro { .. }))
+                + 2 * u32::from(found.location.source.is_some())
+                + 4 * u32::from(cause.is_some()),
             line: line_of(found.location),
             list: list_of(found.location),
             name: number_or_none(number),
@@ -72,20 +70,10 @@ impl Row {
             name_length: texts.name.len(),
             value_length: texts.value.len(),
             source_length: texts.source.len(),
-            pattern_length: texts.pattern_length(),
+            pattern_length: texts.pattern.len(),
             cause_length: texts.cause.len(),
         }
     }
-}
-
-#[inline(always)]
-fn flags_of(is_macro: bool, has_source: bool, has_cause: bool) -> u32
-    ensures { result ≡ flags_by is_macro has_source has_cause }
-{
-    let first = if is_macro { 1 } else { 0 };
-    let second = if has_source { 2 } else { 0 };
-    let third = if has_cause { 4 } else { 0 };
-    first + second + third
 }
 
 #[inline(always)]

@@ -27,7 +27,7 @@ pub struct RowTexts<'a> {
     /// The source of the list.
     pub source: &'a [u8],
     /// The pattern.
-    pub pattern: Option<MarkedText<'a>>,
+    pub pattern: MarkedText<'a>,
     /// The name of the macro whose body has the attribute.
     pub cause: &'a [u8],
 }
@@ -42,19 +42,8 @@ impl<'a> RowTexts<'a> {
             name: text_or_empty(held, found, 0),
             value: text_or_empty(held, found, 1),
             source: text_or_empty(held, found, 2),
-            pattern: MarkedText::of_pattern(found),
+            pattern: MarkedText::of_pattern(found).unwrap_or(MarkedText::plain(b"")),
             cause: text_or_empty(held, found, 4),
-        }
-    }
-
-    /// The length of the pattern in bytes, and 0 without one.
-    #[inline(always)]
-    pub fn pattern_length(self) -> usize
-        ensures { result ≡ length (texts_view self.entry).pattern }
-    {
-        match self.pattern {
-            Some(pattern) => pattern.len(),
-            None => 0,
         }
     }
 
@@ -66,7 +55,7 @@ impl<'a> RowTexts<'a> {
         let at = lay(buffer, at, self.name);
         let at = lay(buffer, at, self.value);
         let at = lay(buffer, at, self.source);
-        let at = lay_pattern(buffer, at, self.pattern);
+        let at = self.pattern.lay(buffer, at);
         lay(buffer, at, self.cause)
     }
 }
@@ -100,9 +89,7 @@ impl<'a> MarkedText<'a> {
             ≡ option_map (λ _. pattern_text (match_view found.entry))
             (match_view found.entry).origin.source }
     {
-        if found.location.source.is_none() {
-            return None;
-        }
+        found.location.source?;
         Some(MarkedText {
             is_negative: found.pattern.is_negative(),
             is_absolute: found.pattern.mode.contains(Mode::ABSOLUTE),
@@ -153,17 +140,6 @@ impl<'a> MarkedText<'a> {
 }
 
 #[inline(always)]
-fn lay_pattern(buffer: &mut [u8], at: usize, pattern: Option<MarkedText<'_>>) -> usize
-    ensures { IsLaidBehind buffer.old at (unwrap_or (option_map marked_text pattern.entry) [])
-        buffer.new result }
-{
-    match pattern {
-        Some(pattern) => pattern.lay(buffer, at),
-        None => at,
-    }
-}
-
-#[inline(always)]
 fn lay_mark(buffer: &mut [u8], at: usize, is_there: bool, mark: u8) -> usize
     ensures { IsLaidBehind buffer.old at (mark_where is_there mark) buffer.new result }
 {
@@ -179,10 +155,7 @@ fn text_or_empty<'a>(held: &'a SourcedEngine, found: Match<'a>, which: i32) -> &
     ensures { ¬ (which ≡ pos 3) → result.now
         ≡ unwrap_or (text_told held.now (match_view found.entry) which) [] }
 {
-    match text_of(held, found, which) {
-        Some(text) => text,
-        None => b"",
-    }
+    text_of(held, found, which).unwrap_or(b"")
 }
 
 // Lays a text behind what is laid, if there is room for it, and returns the length of both.

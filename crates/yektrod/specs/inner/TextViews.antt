@@ -1,5 +1,5 @@
 -- What clauses see of the texts of an answer (own).
-use Rattle.std.specs.Prelude.{ℕ, List, [], ◌++◌, option_map, unwrap_or}
+use Rattle.std.specs.Prelude.{ℕ, List, ◌++◌}
 use Rattle.gix_attributes.specs.Bytes.{exclamation_mark, slash}
 use Rattle.gix_attributes.specs.Patterns.{mark_where}
 use Rattle.yektrod.specs.RowsTold.{AnswerTexts}
@@ -17,6 +17,6 @@ texts_view t =
       name = t.name.now;
       value = t.value.now;
       source = t.source.now;
-      pattern = unwrap_or (option_map marked_text t.pattern) [];
+      pattern = marked_text t.pattern;
       cause = t.cause.now;
     }

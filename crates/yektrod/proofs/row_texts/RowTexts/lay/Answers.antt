@@ -5,5 +5,5 @@ pub returns : goal.returns
 returns c =
     laid_both _ _ _ _ _ _ _ _
     (laid_both _ _ _ _ _ _ _ _
-    (laid_both _ _ _ _ _ _ _ _ (laid_both _ _ _ _ _ _ _ _ c.lay-at.ensures c.lay-at-2.ensures) c.lay-at-3.ensures) c.lay_pattern-at.ensures)
+    (laid_both _ _ _ _ _ _ _ _ (laid_both _ _ _ _ _ _ _ _ c.lay-at.ensures c.lay-at-2.ensures) c.lay-at-3.ensures) c.lay-at-4.ensures)
     c.lay.ensures
