@@ -13,7 +13,7 @@ use Rattle.gix_attributes.specs.Contents.{unspecified}
 use Rattle.yektrod.specs.Held.{Becomes, answer_in, text_in}
 use Rattle.yektrod.specs.RowsTold.{AnswerTexts, labelled_answer, answers_of, labelled_found, full_text, row_at, row_with, text_of, texts_told}
 use Rattle.yektrod.specs.declared.row.Row.{Row}
-use Rattle.yektrod.specs.Rows.{answer_row, text_numbered}
+use Rattle.yektrod.specs.Rows.{answer_row}
 use Rattle.yektrod.specs.Sourced.{told_content, told_match}
 use Rattle.yektrod.specs.SourcedContents.{SourcedContent}
 use Rattle.yektrod.specs.Told.{text_told}
@@ -47,9 +47,6 @@ row_same f m = grind (arith, nat_tests, is_some, same_some)
 pub row_there : (c : SourcedContent) (i : ℕ) (m : Matched) → Some m ≡ answer_in c.labelled i
     → Some (answer_row m) ≡ option_map answer_row (answer_in (told_content c) i)
 row_there c i m there = grind (arith, nat_tests, answer_told c i, row_same)
-
-abbrev text_of_told : SourcedContent → ℤ → Option Matched → Option (List ℕ)
-text_of_told c which answer = option_and_then (λ m. text_numbered c.labelled.state.names m which) answer
 
 pub text_there : (c : SourcedContent) (i : ℕ) (which : ℤ) (m : Matched) → Some m ≡ answer_in c.labelled i
     → text_told c m which ≡ text_in (told_content c) i which

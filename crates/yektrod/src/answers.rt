@@ -1,7 +1,7 @@
 //! The answers to the last question.
 
-ghost use Rattle.std.specs.Prelude.{◌≡◌, ◌⊎◌, ◌↔◌, ◌<◌, ◌++◌, MatchOption, None, Some, drop, length, option_and_then, option_map, pos, slice_get};
-ghost use Rattle.gix_attributes.specs.Matches.{cause_of, match_view};
+ghost use Rattle.std.specs.Prelude.{◌≡◌, ◌⊎◌, ◌↔◌, ◌<◌, ◌++◌, MatchOption, None, Some, drop, length, option_map, pos};
+ghost use Rattle.gix_attributes.specs.Matches.{match_view};
 ghost use Rattle.gix_attributes.specs.TextViews.{state_view};
 ghost use Rattle.yektrod.specs.Held.{answer_held, answer_in, held, sourced, text_held, text_in};
 ghost use Rattle.yektrod.specs.Rows.{answer_row, state_number};
@@ -16,7 +16,6 @@ use crate::slot::Slot;
 use crate::sourced::SourcedEngine;
 use crate::status::{DONE, MISSING, SHUT};
 use gix_attributes::StateRef;
-use gix_attributes::engine::Engine;
 use gix_attributes::search::{Match, MatchKind};
 
 /// An answer, without its texts.
@@ -146,27 +145,9 @@ pub(crate) fn text_of<'a>(held: &'a SourcedEngine, found: Match<'a>, which: i32)
 {
     match which {
         0 => Some(found.assignment.name.as_str().as_bytes()),
-        1 => match found.assignment.state.as_bstr() {
-            Some(value) => Some(value.as_bytes()),
-            None => None,
-        },
-        2 => match found.location.source {
-            Some(label) => Some(held.source(label)),
-            None => None,
-        },
-        4 => cause_of_match(held.labelled(), found),
+        1 => Some(found.assignment.state.as_bstr()?.as_bytes()),
+        2 => Some(held.source(found.location.source?)),
+        4 => Some(held.labelled().name_of(found.kind.source_id()?)?.as_bytes()),
         _ => None,
-    }
-}
-
-// The name of the macro whose body has the attribute, if one has.
-#[inline(always)]
-fn cause_of_match<'a>(engine: &'a Engine, found: Match<'_>) -> Option<&'a [u8]>
-    ensures { option_map (λ name. name.now) result ≡ option_and_then
-        (slice_get engine.now.state.names) (cause_of found.entry.kind) }
-{
-    match engine.name_of(found.kind.source_id()?) {
-        Some(name) => Some(name.as_bytes()),
-        None => None,
     }
 }
