@@ -1,6 +1,6 @@
 //! Names are selected, and paths are asked for.
 
-ghost use Rattle.std.specs.Prelude.{◌≡◌, ◌⊎◌, ◌↔◌, All, IfOk, IsTrue, IsUtf8, MatchOption, None, Some, length, map, option_and_then, option_map};
+ghost use Rattle.std.specs.Prelude.{◌≡◌, ◌⊎◌, ◌↔◌, All, IfOk, IsTrue, IsUtf8, None, Some, length, map, option_and_then, option_map};
 ghost use Rattle.gix_attributes.specs.EngineStates.{AnswersTo, FindsFor, with_selection, without_answers};
 ghost use Rattle.yektrod.specs.Held.{Becomes, held, labelled, sourced};
 ghost use Rattle.yektrod.specs.Passed.{IsDirectoryNumber, directory_flag, passed_case};
@@ -29,12 +29,11 @@ pub extern "C" fn yektrod_select(alloc: Global, slot: &mut Slot, names: &[&[u8]]
     if !are_texts(names) {
         return UNREADABLE;
     }
-    match names_of(alloc, names) {
-        Ok(Some(texts)) => match slot.handle.engine().select(alloc, &texts) {
-            Ok(()) => DONE,
-            Err(_) => NO_MEMORY,
-        },
-        Ok(None) => UNREADABLE,
+    let Ok(texts) = names_of(alloc, names) else {
+        return NO_MEMORY;
+    };
+    match slot.handle.engine().select(alloc, &texts) {
+        Ok(()) => DONE,
         Err(_) => NO_MEMORY,
     }
 }
@@ -43,29 +42,22 @@ pub extern "C" fn yektrod_select(alloc: Global, slot: &mut Slot, names: &[&[u8]]
 fn are_texts(names: &[&[u8]]) -> bool
     ensures { IsTrue result ↔ All (λ name. IsUtf8 name.now) names.now }
 {
-    for name in names {
-        let Ok(_) = str::from_utf8(name) else {
-            return false;
-        };
-    }
-    true
+    names.iter().all(|name| str::from_utf8(name).is_ok())
 }
 
-// The names that are passed: none if one of them is no UTF-8. It fails if there is no memory.
-fn names_of<'a>(alloc: Global, names: &[&'a [u8]]) -> Result<Option<Vec<&'a str>>, AllocError>
-    ensures { IfOk result (λ read. MatchOption read
-        (¬ All (λ name. IsUtf8 name.now) names.now)
-        (λ texts. All (λ name. IsUtf8 name.now) names.now
-        × (map (λ text. text.now) texts.items ≡ map (λ name. name.now) names.now))) }
+// The texts of names that are UTF-8. It fails if there is no memory.
+fn names_of<'a>(alloc: Global, names: &[&'a [u8]]) -> Result<Vec<&'a str>, AllocError>
+    requires { All (λ name. IsUtf8 name.now) names.now }
+    ensures { IfOk result (λ texts.
+        map (λ text. text.now) texts.items ≡ map (λ name. name.now) names.now) }
 {
     let mut texts = Vec::with_capacity(alloc, names.len())?;
     for name in names {
-        let Ok(text) = str::from_utf8(name) else {
-            return Ok(None);
-        };
-        texts.push(text)?;
+        if let Ok(text) = str::from_utf8(name) {
+            texts.push(text)?;
+        }
     }
-    Ok(Some(texts))
+    Ok(texts)
 }
 
 /// Looks a path up, and says how many answers there are.

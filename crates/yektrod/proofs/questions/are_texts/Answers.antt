@@ -1,20 +1,20 @@
-use Rattle.std.proofs.Common.{ℕ, ◌≤◌, All, Bor, IsUtf8, List, [], refl, subst, arith, length}
-use Rattle.std.proofs.lemmas.List.Elements.{All-more}
-use Rattle.std.proofs.lemmas.List.{take_all}
+use Rattle.std.proofs.Common.{ℕ, Bool, Bor, List, ◌∙◌, sym, arith}
+use Rattle.std.proofs.lemmas.Bool.Decides.{nat_tests}
+use Rattle.std.proofs.lemmas.Iterator.{YieldsList-from_slice}
+use Rattle.std.proofs.lemmas.Iterator.Search.{all_from_yields_List}
+use Rattle.std.proofs.lemmas.List.Sums.{AllPass-from_list_all, list_all-from_AllPass}
+use Rattle.std.proofs.lemmas.Str.{IsUtf8-from_is_utf8, is_utf8-from_IsUtf8}
+use Rattle.std.specs.Str.{is_utf8}
 use Rattle.yektrod.proofs.questions.are_texts.Goals as goal
 
-abbrev nowhere : Bor (List ℕ)
-nowhere = record { ref_ptr = (0, 0); now = [] }
-
-abbrev IsRead : Bor (List ℕ) → Type 0
-IsRead name = IsUtf8 name.now
-
-pub loop-name-preserved : goal.loop-name-preserved
-loop-name-preserved c =
-    All-more IsRead c.args.names.now c.loop-name.name-index nowhere c.loop-name-test.true c.loop-name.invariant c.in-Ok.ensures.cases.1
+abbrev is_text : Bor (List ℕ) → Bool
+is_text name = is_utf8 name.now
 
 pub returns : goal.returns
 returns c =
     let names = c.args.names.now in
-    let past : length names ≤ c.loop-name.name-index = omega (arith, c.loop-name-test.false) in
-    ((λ yes. subst (All IsRead) (take_all c.loop-name.name-index names past) c.loop-name.invariant), (λ all. refl))
+    let told = all_from_yields_List is_text _ _ c.all.result c.all.ensures.ran (YieldsList-from_slice names c.iter.ensures.rest)
+    (λ x b q k. grind (arith, nat_tests, is_utf8-from_IsUtf8, IsUtf8-from_is_utf8, k)) in (
+      λ yes k d inside. IsUtf8-from_is_utf8 _ (AllPass-from_list_all is_text names (sym told ∙ yes) k d inside),
+      λ all. told ∙ list_all-from_AllPass is_text names (λ k d inside. is_utf8-from_IsUtf8 _ (all k d inside)),
+    )
