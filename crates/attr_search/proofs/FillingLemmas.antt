@@ -1,20 +1,22 @@
 -- What filling slots by numbered items reads and writes, in the terms of the table.
-use Rattle.std.proofs.Common.{◌≡◌, ℕ, ◌+◌, ◌<◌, ◌≤◌, List, [], ◌∷◌, ◌++◌, length, get_or, set, take, map, Option, Some, None, refl, sym, ap}
-use Rattle.std.proofs.Common.{⊎_elim, arith, Bool, true, false}
-use Rattle.std.specs.Prelude.{is_some, not, ◌==◌, All, slice_index_or}
+use Rattle.std.proofs.Common.{◌≡◌, ℕ, zero, suc, ◌+◌, ◌<◌, ◌≤◌, List, [], ◌∷◌, ◌++◌, length, get_or, take, drop, map, Option, Some, None}
+use Rattle.std.proofs.Common.{refl, ap, ◌∙◌}
+use Rattle.std.proofs.Common.{⊎_elim, arith, Bool, ◌||◌, true, false}
+use Rattle.std.specs.Prelude.{is_some, not, ◌==◌, All, MatchOption, slice_index_or, if◌then◌else◌}
+use Rattle.std.specs.Bool.{⊤}
 use Rattle.std.proofs.Math.ListN
 use Rattle.std.proofs.lemmas.Bool.{false≢true, cases_eq, eq-eqb, ne_eqb, cases_lt}
-use Rattle.std.proofs.lemmas.List.{map-append, take_more, append-nil, length-append, get_or_past, get_or-set_same, get_or-set_other, length-set}
-use Rattle.std.proofs.lemmas.List.{get_or_default}
-use Rattle.std.proofs.lemmas.List.Elements.{All-push}
+use Rattle.std.proofs.lemmas.List.{map-append, get_or_past, get_or-set_same, get_or-set_other, length-set, length-take, take_all, append_assoc}
+use Rattle.std.proofs.lemmas.List.{append-nil, length-append, length-map, drop_more, get_or-take}
+use Rattle.std.proofs.lemmas.List.Elements.{All-cons, All-map, All-pop, All-push, All-same}
+use Rattle.std.proofs.lemmas.List.Sums.{sum_by-append}
 use Rattle.attr_lists.specs.declared.types.TrackedAssignment.{TrackedAssignment}
-use Rattle.attr_table.specs.Setting.{Origin, body_of}
+use Rattle.attr_table.specs.Setting.{Item, Origin, body_of}
 use Rattle.attr_table.specs.Table.{Slots}
-use Rattle.attr_table.specs.Cut.{is_filled}
-use Rattle.attr_table.specs.shared.Walk.{expands, tasks_in, free_items, fill, Searches}
-use Rattle.attr_table.proofs.ForCallers.{backwards-append, length-tasks_in, top, length-free, row_searched, taken_skip, taken_closed, taken_open}
-use Rattle.attr_table.proofs.ForCallers.{left_in-less, left_in-open, tasks_push, tasks_pass}
-use Rattle.attr_search.specs.declared.pending_item.PendingItem.{PendingItem}
+use Rattle.attr_table.specs.Cut.{is_done, is_filled}
+use Rattle.attr_table.specs.shared.Walk.{Task, expands, opened, tasks_in, fill}
+use Rattle.attr_table.proofs.ForCallers.{backwards-append, fills_task, left_in-less, nothing_taken, passes_items}
+use Rattle.attr_search.specs.declared.item_index.ItemIndex.{ItemIndex}
 use Rattle.attr_search.specs.Slots.{table_item, table_items, table_state}
 use Rattle.attr_search.specs.SearchContents.{SearchContents}
 use Rattle.attr_search.specs.shared.SlotContents.{open_slots}
@@ -22,13 +24,10 @@ use Rattle.attr_search.proofs.OpenLemmas.{open_needed}
 use Rattle.attr_search.specs.Settings.{HaveSlots}
 use Rattle.attr_lists.specs.Numbers.{AreNamed}
 use Rattle.attr_search.specs.declared.matching_line.MatchingLine.{MatchingLine}
-use Rattle.attr_search.specs.inner.Filling.{AtLine, FillsBy, FillsItem, FillsTo, Processes, item_task, most_left, stack_tasks, top_item}
+use Rattle.attr_search.specs.inner.Filling.{AtLine, Fills, FillsBy, FillsItem, FillsTo, LeadsTo, own_item, steps_left, tasks_left}
 use Rattle.attr_search.specs.inner.Searched.{KeepsState, state_bodies, state_wanted}
-use Rattle.attr_search.specs.inner.Pending.{PushesFree, item_answer, line_origin, items_beside, IsInside, task_of, pending_tasks}
-use Rattle.attr_search.specs.inner.Pending.{no_item}
-
-filled_of : (x : Bool) → false ≡ not x → x ≡ true
-filled_of x e = grind arith
+use Rattle.attr_search.specs.inner.Pending.{AreFilled, IsLastFree, HasItemsBefore, item_answer, line_origin, items_beside, no_item}
+use Rattle.attr_search.specs.inner.Pending.{end_of_body, stacked_tasks, task_at, tasks_before}
 
 -- the bodies in the table
 pub body_table : (bs : List (List TrackedAssignment)) (a : ℕ) →
@@ -41,183 +40,276 @@ beside : (P : List TrackedAssignment → Type 0) (line : List TrackedAssignment)
 beside P line bs None none h b = h
 beside P line bs (Some a) none h b = grind (arith, get_or_past, cases_lt)
 
-pub has_slot : {line : MatchingLine} (top : PendingItem) {item : TrackedAssignment} {state : SearchContents} {stack : List PendingItem} →
-    AtLine line state stack → IsInside line.items.now state.bodies top → item ≡ top_item line top state → item.id.0 < length state.answers
-has_slot {line} top {item} {state} at inside is =
-    rw is (beside (HaveSlots (length state.answers)) line.items.now state.bodies top.cause (λ k d lt. absurd (omega arith))
-    at.in_line at.bodies.in_bodies top.index no_item inside)
+-- the items at hand have slots
+pub have_slots : {line : MatchingLine} {state : SearchContents} {at : ItemIndex} {stack : List ItemIndex} →
+    AtLine line state at stack → HaveSlots (length state.answers) (items_beside line.items.now state.bodies at.cause)
+have_slots {line} {state} {at} held =
+    beside (HaveSlots (length state.answers)) line.items.now state.bodies at.cause (λ k d lt. absurd (omega arith)) held.in_line
+    held.bodies.in_bodies
 
 is_filled-table : (items : List TrackedAssignment) → not (length items == 0) ≡ is_filled (table_items items)
 is_filled-table [] = refl
 is_filled-table (i ∷ items) = let d = ne_eqb (length (i ∷ items)) 0 (λ (f : length (i ∷ items) ≡ 0). omega arith) in rw d refl
 
-item_opened : {line : MatchingLine} {top : PendingItem} {before after : SearchContents} →
-    FillsItem line top before after → open_slots after ≡ fill (state_bodies before) (item_task line before top) (open_slots before)
-item_opened {line} {top} {before} {after} p =
-    grind (arith, top, open_needed, is_filled-table, body_table, get_or-set_same, eq-eqb, get_or-set_other, ne_eqb, cases_eq)
+item_opened : {line : MatchingLine} {at : ItemIndex} {before after : SearchContents} →
+    FillsItem line at before after →
+    open_slots after ≡ fill (state_bodies before) (task_at (line_origin line) line.items.now before.bodies at) (open_slots before)
+item_opened {line} {at} {before} {after} p =
+    grind (arith, open_needed, is_filled-table, body_table, get_or-set_same, eq-eqb, get_or-set_other, ne_eqb, cases_eq)
 
 -- the rest is kept
-pub fills_kept : {line : MatchingLine} {top : PendingItem} (before after : SearchContents) →
-    FillsItem line top before after → KeepsState before after
-fills_kept {line} {top} before after p = grind (arith, top, length-set, open_needed, false≢true, get_or-set_other)
+pub fills_kept : {line : MatchingLine} {at : ItemIndex} (before after : SearchContents) →
+    FillsItem line at before after → KeepsState before after
+fills_kept {line} {at} before after p = grind (arith, length-set, open_needed, false≢true, get_or-set_other)
 
-pub fills_by : {line : MatchingLine} {top : PendingItem} (before after : SearchContents) →
-    FillsItem line top before after → FillsBy line.items.now before after
-fills_by {line} {top} before after p = record {
+pub fills_by : {line : MatchingLine} {at : ItemIndex} (before after : SearchContents) →
+    FillsItem line at before after → FillsBy line.items.now before after
+fills_by {line} {at} before after p = record {
   named = λ names h b held a.
-      let own = top_item line top before in
-      let answer = item_answer line before.bodies own top.cause in
+      let own = own_item line at before in
+      let answer = item_answer line before.bodies own at.cause in
       ⊎_elim
       (λ (f : a ≡ own.id.0).
       let g = get_or-set_same before.answers own.id.0 (Some answer) None p.within in
-      let named = beside (AreNamed names) line.items.now before.bodies top.cause (λ k d lt. absurd (omega arith)) h b top.index no_item p.inside in
+      let named = beside (AreNamed names) line.items.now before.bodies at.cause (λ k d lt. absurd (omega arith)) h b at.index no_item p.inside in
       rw (p.filled, f, g) named)
       (λ (ne : a ≡ own.id.0 → ⊥). rw p.filled (grind (arith, get_or-set_other)))
       (cases_eq a own.id.0);
   tested = ap (λ state. state.tested) p.filled;
 }
 
--- the top of the stack is taken where its slot is filled
-pub skips_item : (line : MatchingLine) (top : PendingItem) {item : TrackedAssignment} (state : SearchContents) (stack : List PendingItem) →
-    item ≡ top_item line top state → false ≡ not (is_some (open_slots state item.id.0)) → Processes line top state stack state stack
-skips_item line top {item} state stack is filled undone final earlier later counted q =
-    taken_skip (state_bodies state) (state_wanted state) (item_task line state top) (stack_tasks line state stack)
-    (open_slots state) final earlier state.taken later counted (rw (← is) (filled_of (is_some (open_slots state item.id.0)) filled)) q
+-- some first items, of which one is at an index
+take_split : {X : Type 0} (xs : List X) (i e : ℕ) (d : X) → i < e → e ≤ length xs →
+    take e xs ≡ take i xs ++ get_or xs i d ∷ drop (i + 1) (take e xs)
+take_split [] i e d lt le = absurd (omega arith)
+take_split (x ∷ xs) i zero d lt le = absurd (omega arith)
+take_split (x ∷ xs) zero (suc e) d lt le = refl
+take_split (x ∷ xs) (suc i) (suc e) d lt le = grind (arith, take_split xs i e d)
 
--- tasks that are gone through from a filled slot on are those of before
-leads_back : {line : MatchingLine} {top : PendingItem} (before after : SearchContents) (stack : List PendingItem)
-    {final : Slots} {later : ℕ} → FillsItem line top before after → FillsTo line after stack final later →
-    Searches (state_bodies before) (state_wanted before) (stack_tasks line before stack) (open_slots after) final before.taken later
-leads_back {line} before after stack {final} {later} p q =
+-- the tasks before an index: those of the items after one of them, its own, and those of the items before it
+split_tasks : (origin : Origin) (items : List TrackedAssignment) (bodies : List (List TrackedAssignment)) (at own : ItemIndex) →
+    HasItemsBefore items bodies at → own.cause ≡ at.cause → own.index < at.index →
+    tasks_before origin items bodies at
+    ≡ tasks_in origin at.cause (table_items (drop (own.index + 1) (take at.index (items_beside items bodies at.cause))))
+    ++ task_at origin items bodies own ∷ tasks_before origin items bodies own
+split_tasks origin items bodies at own within same lt =
+    let xs = items_beside items bodies at.cause in
+    let i = get_or xs own.index no_item in
+    let rest = drop (own.index + 1) (take at.index xs) in
+    let task : Item → Task = λ i. record { origin = origin; item = i; cause = at.cause } in
+    let parts = ap (λ l. tasks_in origin at.cause (table_items l)) (take_split xs own.index at.index no_item lt within.index)
+    ∙ ap (tasks_in origin at.cause) (map-append table_item (take own.index xs) (i ∷ rest))
+    ∙ backwards-append (λ i. task i ∷ []) (table_items (take own.index xs)) (table_item i ∷ table_items rest)
+    ∙ append_assoc (tasks_in origin at.cause (table_items rest)) (task (table_item i) ∷ [])
+    (tasks_in origin at.cause (table_items (take own.index xs))) in
+    rw same parts
+
+-- filled items are filled in the table
+pub filled_items : (slots : Slots) (items : List TrackedAssignment) → AreFilled slots items →
+    All (λ i. is_some (slots i.attribute) ≡ true) (table_items items)
+filled_items slots items filled = All-map (λ i. is_some (slots i.attribute) ≡ true) table_item items filled
+
+-- the end of a body is told
+no_end : (number : ℕ) (is_expanded : Bool) (body : List TrackedAssignment) →
+    if◌then◌else◌ {A = Option ItemIndex} (not is_expanded || length body == 0) None (Some (record { cause = Some number; index = length body }))
+    ≡ None →
+    is_expanded ≡ true → body ≡ []
+no_end number is_expanded [] none sets = refl
+no_end number is_expanded (i ∷ body) none sets =
+    let d = ne_eqb (length (i ∷ body)) 0 (λ (f : length (i ∷ body) ≡ 0). omega arith) in
+    absurd (grind arith)
+
+some_end : (bodies : List (List TrackedAssignment)) (number : ℕ) (is_expanded : Bool) (next : ItemIndex) →
+    end_of_body bodies number is_expanded ≡ Some next →
+    (is_expanded ≡ true) × (next ≡ record { cause = Some number; index = length (slice_index_or bodies number []) })
+some_end bodies number is_expanded next ends = grind arith
+
+-- what the top of the stack comes after
+stacked_top : (origin : Origin) (items : List TrackedAssignment) (bodies : List (List TrackedAssignment)) (rest : List ItemIndex) (top : ItemIndex) →
+    stacked_tasks origin items bodies (rest ++ top ∷ []) ≡ tasks_before origin items bodies top ++ stacked_tasks origin items bodies rest
+stacked_top origin items bodies rest top = backwards-append (tasks_before origin items bodies) rest (top ∷ [])
+
+-- where all items before the index at hand are filled, those before the top of the stack come next
+pub leads_pop : (line : MatchingLine) (state : SearchContents) (at top : ItemIndex) (stack rest : List ItemIndex) →
+    AreFilled (open_slots state) (take at.index (items_beside line.items.now state.bodies at.cause)) → stack ≡ rest ++ top ∷ [] →
+    LeadsTo line state at stack state top rest
+leads_pop line state at top stack rest filled is final later p =
+    let origin = line_origin line in
+    let xs = take at.index (items_beside line.items.now state.bodies at.cause) in
+    rw (is, stacked_top origin line.items.now state.bodies rest top)
+    (passes_items (state_bodies state) (state_wanted state) origin at.cause (table_items xs) (tasks_left line state top rest)
+    (open_slots state) final state.taken later (filled_items (open_slots state) xs filled) p)
+
+-- and with nothing on the stack nothing is left
+pub ends_line : (line : MatchingLine) (state : SearchContents) (at : ItemIndex) (stack : List ItemIndex) →
+    AreFilled (open_slots state) (take at.index (items_beside line.items.now state.bodies at.cause)) → length stack ≡ 0 →
+    FillsTo line state at stack (open_slots state) state.taken
+ends_line line state at [] filled e =
+    let xs = take at.index (items_beside line.items.now state.bodies at.cause) in
+    passes_items (state_bodies state) (state_wanted state) (line_origin line) at.cause (table_items xs) [] (open_slots state) (open_slots state)
+    state.taken state.taken (filled_items (open_slots state) xs filled)
+    (nothing_taken (state_bodies state) (state_wanted state) (open_slots state) state.taken)
+ends_line line state at (top ∷ stack) filled e = absurd (omega arith)
+
+-- an item fills its slot, and what it opens comes next
+leads_on : {line : MatchingLine} {own : ItemIndex} (before after : SearchContents) (at next : ItemIndex) (stack left : List ItemIndex) →
+    FillsItem line own before after → HasItemsBefore line.items.now before.bodies at → own.cause ≡ at.cause →
+    IsLastFree (open_slots before) (items_beside line.items.now before.bodies at.cause) at.index own.index →
+    is_done (state_wanted before) (open_slots before) ≡ false →
+    tasks_left line before next left
+    ≡ opened (state_bodies before) (task_at (line_origin line) line.items.now before.bodies own) ++ tasks_left line before own stack →
+    LeadsTo line before at stack after next left
+leads_on {line} {own} before after at next stack left p within same last undone laid final later q =
+    let origin = line_origin line in
+    let t = task_at origin line.items.now before.bodies own in
+    let rest = drop (own.index + 1) (take at.index (items_beside line.items.now before.bodies at.cause)) in
     let bodies : after.bodies ≡ before.bodies = grind arith in
     let wanted : after.wanted ≡ before.wanted = grind arith in
-    let taken : after.taken ≡ before.taken = grind arith in
-    rw (bodies, wanted, taken) at q
+    let taken : after.taken ≡ before.taken + 1 = grind arith in
+    let on = rw (bodies, wanted, taken, laid) at q in
+    let filled = fills_task (state_bodies before) (state_wanted before) t (tasks_left line before own stack) (open_slots before) (open_slots after)
+    final before.taken later (item_opened p) undone p.free on in
+    let passed = passes_items (state_bodies before) (state_wanted before) origin at.cause (table_items rest) (t ∷ tasks_left line before own stack)
+    (open_slots before) final before.taken later (filled_items (open_slots before) rest last.others) filled in
+    grind (arith, split_tasks origin line.items.now before.bodies at own within same last.before, append_assoc)
 
--- where it fills its slot, and does not set its attribute
-pub closes_item : {line : MatchingLine} {top : PendingItem} {item : TrackedAssignment} (before after : SearchContents) (stack : List PendingItem) →
-    FillsItem line top before after → item ≡ top_item line top before → false ≡ expands (table_state item.inner.state) →
-    Processes line top before stack after stack
-closes_item {line} {top} before after stack p is closed undone final earlier later counted q =
-    taken_closed (state_bodies before) (state_wanted before) (item_task line before top) (stack_tasks line before stack)
-    (open_slots before) (open_slots after) final earlier before.taken later (item_opened p) (sym (rw is at closed)) p.free undone counted
-    (leads_back before after stack p q)
+-- nothing, if there is no body
+leads_closed-tasks : (line : MatchingLine) (own : ItemIndex) (before : SearchContents) →
+    end_of_body before.bodies (own_item line own before).id.0 (expands (table_state (own_item line own before).inner.state)) ≡ None →
+    opened (state_bodies before) (task_at (line_origin line) line.items.now before.bodies own) ≡ []
+leads_closed-tasks line own before none =
+    let item = own_item line own before in
+    let sets = expands (table_state item.inner.state) in
+    let empty = no_end item.id.0 sets (slice_index_or before.bodies item.id.0 []) none in
+    grind (arith, body_table, empty)
 
-pub less_closed : {line : MatchingLine} {top : PendingItem} (before after : SearchContents) (stack : List PendingItem) →
-    FillsItem line top before after → most_left after stack ≤ most_left before stack
-less_closed {line} {top} before after stack p =
-    let e = left_in-less (state_bodies before) (item_task line before top) (open_slots before) (open_slots after) (item_opened p) p.free in
+pub leads_closed : {line : MatchingLine} {own : ItemIndex} (before after : SearchContents) (at : ItemIndex) (stack : List ItemIndex) →
+    FillsItem line own before after → HasItemsBefore line.items.now before.bodies at → own.cause ≡ at.cause →
+    IsLastFree (open_slots before) (items_beside line.items.now before.bodies at.cause) at.index own.index →
+    is_done (state_wanted before) (open_slots before) ≡ false →
+    end_of_body before.bodies (own_item line own before).id.0 (expands (table_state (own_item line own before).inner.state)) ≡ None →
+    LeadsTo line before at stack after own stack
+leads_closed {line} {own} before after at stack p within same last undone none =
+    leads_on before after at own stack stack p within same last undone (rw (leads_closed-tasks line own before none) refl)
+
+-- or the body of its attribute
+leads_opened-tasks : (line : MatchingLine) (own next : ItemIndex) (before : SearchContents) →
+    end_of_body before.bodies (own_item line own before).id.0 (expands (table_state (own_item line own before).inner.state)) ≡ Some next →
+    tasks_before (line_origin line) line.items.now before.bodies next
+    ≡ opened (state_bodies before) (task_at (line_origin line) line.items.now before.bodies own)
+leads_opened-tasks line own next before ends =
+    let item = own_item line own before in
+    let body = slice_index_or before.bodies item.id.0 [] in
+    let told = some_end before.bodies item.id.0 (expands (table_state item.inner.state)) next ends in
+    let whole : take (length body) body ≡ body = take_all (length body) body (omega arith) in
+    rw (told.1, whole, told.0, body_table before.bodies item.id.0) refl
+
+pub leads_opened : {line : MatchingLine} {own : ItemIndex} (before after : SearchContents) (at next : ItemIndex) (stack : List ItemIndex) →
+    FillsItem line own before after → HasItemsBefore line.items.now before.bodies at → own.cause ≡ at.cause →
+    IsLastFree (open_slots before) (items_beside line.items.now before.bodies at.cause) at.index own.index →
+    is_done (state_wanted before) (open_slots before) ≡ false →
+    end_of_body before.bodies (own_item line own before).id.0 (expands (table_state (own_item line own before).inner.state)) ≡ Some next →
+    LeadsTo line before at stack after next (stack ++ own ∷ [])
+leads_opened {line} {own} before after at next stack p within same last undone ends =
+    leads_on before after at next stack (stack ++ own ∷ []) p within same last undone
+    (rw (stacked_top (line_origin line) line.items.now before.bodies stack own, leads_opened-tasks line own next before ends) refl)
+
+-- one more item before the end is filled
+pub filled_more : (slots : Slots) (items : List TrackedAssignment) (few i : ℕ) (item : TrackedAssignment) → i < few → few ≤ length items →
+    item ≡ get_or items i item → is_some (slots item.id.0) ≡ true → AreFilled slots (drop (i + 1) (take few items)) →
+    AreFilled slots (drop i (take few items))
+filled_more slots items few i item lt le is filled rest =
+    let P : TrackedAssignment → Type 0 = λ item. is_some (slots item.id.0) ≡ true in
+    let xs = take few items in
+    let short = length-take few items in
+    let more = drop_more xs i item (omega arith) in
+    let own : get_or xs i item ≡ item = grind (arith, get_or-take) in
+    All-same P (drop i xs) (get_or xs i item ∷ drop (i + 1) xs) more (All-cons P (get_or xs i item) (drop (i + 1) xs) (rw own filled) rest)
+
+-- the line goes on from the top of the stack, from an item that was filled, and from the end of a body
+pub at_top : {line : MatchingLine} {state : SearchContents} {at : ItemIndex} (top : ItemIndex) {stack : List ItemIndex} (rest : List ItemIndex) →
+    AtLine line state at stack → stack ≡ rest ++ top ∷ [] → AtLine line state top rest
+at_top {line} {state} top {stack} rest held is =
+    let both = All-pop (HasItemsBefore line.items.now state.bodies) stack rest (Some top) is held.inside in
+    record { bodies = held.bodies; in_line = held.in_line; within = both.1; inside = both.0; origin = held.origin }
+
+pub at_item : {line : MatchingLine} {at own : ItemIndex} {stack : List ItemIndex} (before after : SearchContents) →
+    AtLine line before at stack → FillsItem line own before after → own.cause ≡ at.cause → own.index < at.index →
+    MatchOption after.line ⊤ (λ o. o ≡ line_origin line) → AtLine line after own stack
+at_item {line} {at} {own} {stack} before after held p same lt origin =
+    let bodies : after.bodies ≡ before.bodies = grind arith in
+    let count : length after.answers ≡ length before.answers = grind (arith, length-set) in
+    record {
+      bodies = rw (bodies, count) held.bodies;
+      in_line = rw count held.in_line;
+      within = rw bodies (record { cause = rw same held.within.cause; index = grind (arith, held.within.index) });
+      inside = rw bodies held.inside;
+      origin = origin;
+    }
+
+pub at_body : {line : MatchingLine} {own next : ItemIndex} {stack : List ItemIndex} (after : SearchContents) (number : ℕ) (is_expanded : Bool) →
+    AtLine line after own stack → number < length after.answers → end_of_body after.bodies number is_expanded ≡ Some next →
+    AtLine line after next (stack ++ own ∷ [])
+at_body {line} {own} {next} {stack} after number is_expanded held lt ends =
+    let is = (some_end after.bodies number is_expanded next ends).1 in
+    record {
+      bodies = held.bodies;
+      in_line = held.in_line;
+      within = rw is (record { cause = omega (arith, held.bodies.same_length); index = omega arith });
+      inside = All-push (HasItemsBefore line.items.now after.bodies) stack own held.inside held.within;
+      origin = held.origin;
+    }
+
+-- one part after another
+pub then_by : {items : List TrackedAssignment} (first second third : SearchContents) → KeepsState first second →
+    FillsBy items first second → FillsBy items second third → FillsBy items first third
+then_by first second third kept p q = record {
+  named = λ names own bodies held. q.named names own (rw kept.bodies bodies) (p.named names own bodies held);
+  tested = q.tested ∙ p.tested;
+}
+
+-- fewer steps are left
+pub fewer_popped : (state : SearchContents) (at top : ItemIndex) (stack rest : List ItemIndex) → stack ≡ rest ++ top ∷ [] →
+    steps_left state top rest < steps_left state at stack
+fewer_popped state at top stack rest is =
+    let sums = sum_by-append (λ w. w.index) rest (top ∷ []) in
+    let counts = length-append rest (top ∷ []) in
+    rw is (omega (arith, sums, counts))
+
+pub fewer_filled : {line : MatchingLine} {own : ItemIndex} (before after : SearchContents) (at : ItemIndex) (stack : List ItemIndex) →
+    FillsItem line own before after → own.index < at.index → steps_left after own stack < steps_left before at stack
+fewer_filled {line} {own} before after at stack p lt =
+    let e = left_in-less (state_bodies before) (task_at (line_origin line) line.items.now before.bodies own) (open_slots before) (open_slots after)
+    (item_opened p) p.free in
     let bodies : after.bodies ≡ before.bodies = grind arith in
     rw bodies (omega arith)
 
-body_is : (line : MatchingLine) (top : PendingItem) (item : TrackedAssignment) (before : SearchContents) (body : List TrackedAssignment) →
-    item ≡ top_item line top before → body ≡ slice_index_or before.bodies item.id.0 [] →
-    body_of (state_bodies before) (top_item line top before).id.0 ≡ table_items body
-body_is line top item before body is bodied = grind (arith, body_table, top)
-
--- and where it sets it, and the free items of its body are pushed
-pub opens_item : {line : MatchingLine} {top : PendingItem} {item : TrackedAssignment} (before after : SearchContents)
-    (waiting left : List PendingItem) (body : List TrackedAssignment) →
-    FillsItem line top before after → item ≡ top_item line top before → true ≡ expands (table_state item.inner.state) →
-    body ≡ slice_index_or before.bodies item.id.0 [] →
-    PushesFree (open_slots after) (Some item.id.0) body waiting left → Processes line top before waiting after left
-opens_item {line} {top} {item} before after waiting left body p is set bodied pushed undone final earlier later counted q =
-    taken_open (state_bodies before) (state_wanted before) (item_task line before top) (table_items body)
-    (stack_tasks line before waiting) (stack_tasks line before left) (open_slots before) (open_slots after) final
-    earlier before.taken later (item_opened p) (sym (rw is at set)) p.free (body_is line top item before body is bodied)
-    (rw is at (pushed (line_origin line) line.items.now before.bodies (sym bodied))) undone counted (leads_back before after left p q)
-
-length-pending_tasks : (origin : Origin) (line : List TrackedAssignment) (bs : List (List TrackedAssignment)) (stack : List PendingItem) →
-    length (pending_tasks origin line bs stack) ≡ length stack
-length-pending_tasks origin line bs [] = refl
-length-pending_tasks origin line bs (w ∷ stack) = grind (arith, length-append, length-pending_tasks origin line bs stack)
-
-pub less_open : {line : MatchingLine} {top : PendingItem} {item : TrackedAssignment} (before after : SearchContents)
-    (waiting left : List PendingItem) (body : List TrackedAssignment) →
-    FillsItem line top before after → item ≡ top_item line top before → body ≡ slice_index_or before.bodies item.id.0 [] →
-    PushesFree (open_slots after) (Some item.id.0) body waiting left → most_left after left ≤ most_left before waiting
-less_open {line} {top} {item} before after waiting left body p is bodied pushed =
-    let origin = line_origin line in
-    let laid = pushed origin line.items.now before.bodies (sym bodied) in
-    let free = free_items (open_slots after) (table_items body) in
-    let e = length-pending_tasks origin line.items.now before.bodies waiting in
-    let f = length-pending_tasks origin line.items.now before.bodies left in
-    let g = length-append (tasks_in origin (Some item.id.0) free) (stack_tasks line before waiting) in
-    let h = length-tasks_in origin (Some item.id.0) free in
-    let k = length-free (open_slots after) (table_items body) in
-    let l = ap length laid in
+pub fewer_opened : {line : MatchingLine} {own : ItemIndex} (before after : SearchContents) (at next : ItemIndex) (stack : List ItemIndex)
+    (is_expanded : Bool) →
+    FillsItem line own before after → own.index < at.index →
+    end_of_body before.bodies (own_item line own before).id.0 is_expanded ≡ Some next →
+    steps_left after next (stack ++ own ∷ []) < steps_left before at stack
+fewer_opened {line} {own} before after at next stack is_expanded p lt ends =
+    let number = (own_item line own before).id.0 in
+    let is = (some_end before.bodies number is_expanded next ends).1 in
+    let e = left_in-less (state_bodies before) (task_at (line_origin line) line.items.now before.bodies own) (open_slots before) (open_slots after)
+    (item_opened p) p.free in
+    let size = ap length (body_table before.bodies number) ∙ length-map (slice_index_or before.bodies number []) table_item in
     let bodies : after.bodies ≡ before.bodies = grind arith in
-    rw bodies (left_in-open (state_bodies before) (item_task line before top) (table_items body) (open_slots before) (open_slots after)
-    (length waiting) (length left) (item_opened p) p.free (body_is line top item before body is bodied) (omega arith))
+    let sums = sum_by-append (λ w. w.index) stack (own ∷ []) in
+    let counts = length-append stack (own ∷ []) in
+    rw (bodies, is) (omega (arith, sums, counts, size, e))
 
--- one more item is laid on, or left out
-items_more : (items : List TrackedAssignment) (k : ℕ) (i : TrackedAssignment) → k < length items → i ≡ get_or items k i →
-    table_items (take (k + 1) items) ≡ table_items (take k items) ++ table_item i ∷ []
-items_more items k i lt is = grind (arith, take_more items k i lt, map-append table_item (take k items) (get_or items k i ∷ []))
-
-pub pending_tasks-push : (origin : Origin) (line : List TrackedAssignment) (bs : List (List TrackedAssignment)) (stack : List PendingItem)
-    (w : PendingItem)
-    →
-    pending_tasks origin line bs (stack ++ w ∷ []) ≡ task_of origin line bs w ∷ pending_tasks origin line bs stack
-pending_tasks-push origin line bs stack w = backwards-append (λ w. task_of origin line bs w ∷ []) stack (w ∷ [])
-
-pub pushed_more : (origin : Origin) (line : List TrackedAssignment) (bs : List (List TrackedAssignment)) (cause : Option ℕ)
-    (items : List TrackedAssignment) (k : ℕ) (i : TrackedAssignment) (slots : Slots) (before stack after : List PendingItem) →
-    items_beside line bs cause ≡ items → k < length items → i ≡ get_or items k i → true ≡ not (is_some (slots i.id.0)) →
-    after ≡ stack ++ record { cause = cause; index = k } ∷ [] →
-    pending_tasks origin line bs stack
-    ≡ tasks_in origin cause (free_items slots (table_items (take k items))) ++ pending_tasks origin line bs before →
-    pending_tasks origin line bs after
-    ≡ tasks_in origin cause (free_items slots (table_items (take (k + 1) items))) ++ pending_tasks origin line bs before
-pushed_more origin line bs cause items k i slots before stack after source lt is free pushed laid = grind (
-  arith,
-  get_or_default items k no_item i lt,
-  items_more items k i lt is,
-  tasks_push slots origin cause (table_items (take k items)) (table_item i),
-  pending_tasks-push origin line bs stack,
-)
-
-pub pushed_same : (origin : Origin) (line : List TrackedAssignment) (bs : List (List TrackedAssignment)) (cause : Option ℕ)
-    (items : List TrackedAssignment) (k : ℕ) (i : TrackedAssignment) (slots : Slots) (before stack after : List PendingItem) →
-    k < length items → i ≡ get_or items k i → false ≡ not (is_some (slots i.id.0)) → after ≡ stack →
-    pending_tasks origin line bs stack
-    ≡ tasks_in origin cause (free_items slots (table_items (take k items))) ++ pending_tasks origin line bs before →
-    pending_tasks origin line bs after
-    ≡ tasks_in origin cause (free_items slots (table_items (take (k + 1) items))) ++ pending_tasks origin line bs before
-pushed_same origin line bs cause items k i slots before stack after lt is filled same laid =
-    grind (arith, items_more items k i lt is, tasks_pass slots origin cause (table_items (take k items)) (table_item i), filled_of)
-
-pub inside_push : (line : List TrackedAssignment) (bs : List (List TrackedAssignment)) (cause : Option ℕ) (items : List TrackedAssignment) (k : ℕ)
-    (stack after : List PendingItem) →
-    items_beside line bs cause ≡ items → k < length items → after ≡ stack ++ record { cause = cause; index = k } ∷ [] →
-    All (IsInside line bs) stack → All (IsInside line bs) after
-inside_push line bs cause items k stack after source lt pushed all =
-    let w : PendingItem = record { cause = cause; index = k } in
-    let inside : IsInside line bs w = let e = ap length source in omega arith in
-    rw pushed (All-push (IsInside line bs) stack w all inside)
-
--- the top of a stack waits first
-pub pending_tasks-top : (origin : Origin) (line : List TrackedAssignment) (bs : List (List TrackedAssignment)) (stack rest : List PendingItem)
-    (w : PendingItem) →
-    stack ≡ rest ++ w ∷ [] → pending_tasks origin line bs stack ≡ task_of origin line bs w ∷ pending_tasks origin line bs rest
-pending_tasks-top origin line bs stack rest w e = rw e (pending_tasks-push origin line bs rest w)
-
-pub pending_tasks-none : (origin : Origin) (line : List TrackedAssignment) (bs : List (List TrackedAssignment)) (stack : List PendingItem) →
-    length stack ≡ 0 → pending_tasks origin line bs stack ≡ []
-pending_tasks-none origin line bs [] e = refl
-pending_tasks-none origin line bs (w ∷ stack) e = absurd (omega arith)
-
--- a line whose free items were laid on is gone through as the stack is
-pub line_walked : (line : MatchingLine) (before fresh : SearchContents) (after : Slots) (stack laid : List PendingItem) (later : ℕ) →
-    fresh ≡ record before { line = None } → stack ≡ [] →
-    stack_tasks line fresh laid
-    ≡ tasks_in (line_origin line) None (free_items (open_slots fresh) (table_items line.items.now)) ++ stack_tasks line fresh stack →
-    Searches (state_bodies fresh) (state_wanted fresh) (stack_tasks line fresh laid) (open_slots fresh) after fresh.taken later →
-    Searches (state_bodies before) (state_wanted before) (tasks_in (line_origin line) None (table_items line.items.now)) (open_slots before)
-    after before.taken later
-line_walked line before fresh after stack laid later begun empty is p =
-    let bare : stack_tasks line fresh laid ≡ tasks_in (line_origin line) None (free_items (open_slots fresh) (table_items line.items.now)) =
-    grind (arith, append-nil) in
-    let q = row_searched (state_bodies fresh) (state_wanted fresh) (line_origin line) None (table_items line.items.now)
-    (stack_tasks line fresh laid) (open_slots fresh) after fresh.taken later bare p in
-    rw begun at q
+-- a line that is gone through from the end of its items on an empty stack fills the slots of its items
+pub line_done : (line : MatchingLine) (old fresh now : SearchContents) (stack : List ItemIndex) →
+    fresh ≡ record old { line = None } → stack ≡ [] → KeepsState fresh now → FillsBy line.items.now fresh now →
+    FillsTo line fresh (record { cause = None; index = length line.items.now }) stack (open_slots now) now.taken →
+    KeepsState old now × Fills line.items.now (tasks_in (line_origin line) None (table_items line.items.now)) old now
+line_done line old fresh now stack begun empty kept by p =
+    let k = rw begun at kept in
+    let b = rw begun at by in
+    let whole : take (length line.items.now) line.items.now ≡ line.items.now = take_all (length line.items.now) line.items.now (omega arith) in
+    let q = rw (empty, begun, whole, append-nil) at p in (
+      record { wanted = k.wanted; needed = k.needed; bodies = k.bodies; len = k.len; skipped = k.skipped },
+      record { by = record { named = b.named; tested = b.tested }; searches = q },
+    )

@@ -1,9 +1,7 @@
 -- The lines of a list, of which a search goes through the candidates alone.
-use Rattle.std.proofs.Common.{◌≡◌, ℕ, ◌+◌, ◌<◌, ◌≤◌, Bool, true, false, List, [], ◌∷◌, length, get_or, Option, Some, None, refl, sym, map, arith, inl}
-use Rattle.std.specs.Prelude.{is_none, option_map, string_bytes}
-use Rattle.std.specs.List.{list_any}
-use Rattle.std.proofs.lemmas.Bool.{or_parts}
-use Rattle.std.proofs.lemmas.List.{length-map, get_or-map}
+use Rattle.std.proofs.Common.{◌≡◌, ℕ, ◌+◌, ◌<◌, ◌≤◌, Bool, true, false, List, [], length, get_or, Option, Some, None, refl, sym, map, arith, inl}
+use Rattle.std.specs.Prelude.{MatchOption, is_none, is_some, option_map, string_bytes, take}
+use Rattle.std.proofs.lemmas.List.{append-nil, length-map, get_or-map, take_all}
 use mathlib.Core.List.{map-map}
 use Rattle.bstr.specs.BStr.{bstr_bytes}
 use Rattle.attr_glob.specs.declared.search.pattern.Mapping.{Mapping}
@@ -17,10 +15,10 @@ use Rattle.attr_lists.specs.declared.types.Value.{Value}
 use Rattle.attr_lists.specs.declared.types.TrackedAssignment.{TrackedAssignment}
 use Rattle.attr_lists.specs.ListViews.{entry_view, entries_view, items_in, macro_id}
 use Rattle.attr_lists.specs.Numbers.{AreNamed}
-use Rattle.attr_table.specs.Setting.{Origin}
+use Rattle.attr_table.specs.Setting.{Item, Origin}
 use Rattle.attr_table.specs.Table.{Slots}
-use Rattle.attr_table.specs.shared.Walk.{Searches, free_items, tasks_in}
-use Rattle.attr_table.proofs.ForCallers.{nothing_taken, row_filled}
+use Rattle.attr_table.specs.shared.Walk.{Searches, tasks_in}
+use Rattle.attr_table.proofs.ForCallers.{nothing_taken, passes_items}
 use Rattle.attr_search.specs.declared.indexed_list.IndexedList.{IndexedList}
 use Rattle.attr_search.specs.declared.path_query.PathQuery.{PathQuery}
 use Rattle.attr_search.specs.IndexedLists.{listed_view}
@@ -31,9 +29,11 @@ use Rattle.attr_search.specs.Settings.{HaveSlots, LinesAreNamed, gives, origin_i
 use Rattle.attr_search.specs.Slots.{table_items}
 use Rattle.attr_search.specs.inner.EntryAt.{entry_at}
 use Rattle.attr_search.specs.inner.Lines.{listed_tasks}
+use Rattle.attr_search.specs.inner.Pending.{AreFilled}
 use Rattle.attr_search.specs.inner.Searched.{SearchedLine, over, round, state_bodies, state_wanted}
 use Rattle.attr_search.specs.shared.Slotted.{LinesHaveSlots, indexed_origin, index_origin, origin_of}
 use Rattle.attr_search.proofs.EntryAtLemmas.{entry_is}
+use Rattle.attr_search.proofs.FillingLemmas.{filled_items}
 
 -- a line that fills no slot, tested or not
 unfilled : (rest : PathQuery) (listed : Listed) (index tested : ℕ) (state : SearchContents) →
@@ -66,22 +66,29 @@ pub line_differs : (rest : PathQuery) (listed : Listed) (index tested : ℕ) (st
     state.tested ≤ tested → tested ≤ state.tested + 1 → SearchedLine rest listed index state (record state { tested = tested })
 line_differs rest listed index tested state answer told other le most = grind (arith, not_given)
 
--- a line without a free item
-none_free : (slots : Slots) (items : List TrackedAssignment) → list_any (λ i. is_none (slots i.id.0)) items ≡ false →
-    free_items slots (table_items items) ≡ []
-none_free slots [] e = refl
-none_free slots (i ∷ items) e = grind (arith, or_parts, none_free slots items)
+-- no item of a line is free
+pub none_told : (B : ℕ → Type 0) (slots : Slots) (items : List TrackedAssignment) (last : Option ℕ) →
+    MatchOption last (AreFilled slots (take (length items) items)) B → is_some last ≡ false → AreFilled slots items
+none_told B slots items None told none = rw (take_all (length items) items (omega arith)) at told
+none_told B slots items (Some index) told none = absurd (grind arith)
+
+-- then it is passed over
+line_passed : (bodies : List (List Item)) (wanted : List ℕ) (origin : Origin) (cause : Option ℕ) (items : List TrackedAssignment) (slots : Slots)
+    (taken : ℕ) → AreFilled slots items → Searches bodies wanted (tasks_in origin cause (table_items items)) slots slots taken taken
+line_passed bodies wanted origin cause items slots taken filled =
+    rw append-nil at (passes_items bodies wanted origin cause (table_items items) [] slots slots taken taken (filled_items slots items filled)
+    (nothing_taken bodies wanted slots taken))
 
 pub line_filled : (rest : PathQuery) (list : IndexedList) (index : ℕ) (m : Mapping Value) (items : List TrackedAssignment) (state : SearchContents) →
     index < length list.list.patterns.items → m ≡ get_or list.list.patterns.items index m → items ≡ items_in m.value →
-    false ≡ list_any (λ i. is_none (open_slots state i.id.0)) items → SearchedLine rest (listed_view list) index state state
-line_filled rest list index m items state lt is given none =
+    AreFilled (open_slots state) items → SearchedLine rest (listed_view list) index state state
+line_filled rest list index m items state lt is given filled =
     let e = entry_is list.list.patterns.items index m lt is in
     let slots = open_slots state in
     by_test (gives rest.case rest.is_dir (Some (bstr_bytes rest.path)) (entry_view m))
     (λ t. unfilled rest (listed_view list) index state.tested state
-    (rw (e, t) (row_filled (state_bodies state) (state_wanted state) (origin_in (listed_view list).source (entry_view m)) None
-    (table_items (items_in m.value)) slots state.taken (none_free slots (items_in m.value) (rw given at (sym none)))))
+    (rw (e, t) (line_passed (state_bodies state) (state_wanted state) (origin_in (listed_view list).source (entry_view m)) None
+    (items_in m.value) slots state.taken (rw given at filled)))
     (omega arith) (omega arith))
     (λ f. not_given rest (listed_view list) index state.tested state (rw e f) (omega arith) (omega arith))
 

@@ -20,8 +20,8 @@ use Rattle.attr_search.specs.Slots.{Matched, filled_in, slots_of}
 use Rattle.attr_search.specs.inner.PartsContents.{PartsContent, KeepsOneMore, KeepsParts}
 use Rattle.attr_lists.specs.declared.types.TrackedAssignment.{TrackedAssignment}
 use Rattle.attr_search.specs.declared.matching_line.MatchingLine.{MatchingLine}
-use Rattle.attr_search.specs.declared.pending_item.PendingItem.{PendingItem}
-use Rattle.attr_search.specs.inner.Pending.{items_beside, line_origin, no_item, pending_item}
+use Rattle.attr_search.specs.declared.item_index.ItemIndex.{ItemIndex}
+use Rattle.attr_search.specs.inner.Pending.{items_beside, line_origin, no_item, indexed_item}
 use Rattle.attr_search.specs.declared.answer_parts.MatchRef.{MatchRef}
 use Rattle.std.proofs.lemmas.Option.{get_or_from_slice_get, slice_get_within}
 use Rattle.attr_search.proofs.PartLemmas.{grows_at, grows_length}
@@ -220,12 +220,12 @@ filled_seen store (t ∷ slots) = grind (arith, filled_seen store slots)
 filled_seen store [] = refl
 
 -- an answer is kept whose line and item are
-pub answer_kept : (line : MatchingLine) (top : PendingItem) (before after : PartsContent) (l i : ℕ) →
+pub answer_kept : (line : MatchingLine) (at : ItemIndex) (before after : PartsContent) (l i : ℕ) →
     KeepsParts before after → KeepsOneMore before after → after.line ≡ Some l →
-    slice_get after.lines l ≡ Some (line_origin line) → HasItem after top.cause i →
-    kept_item after top.cause i ≡ pending_item line.items.now before.bodies top →
-    KeepsAnswer line top before after (record { line = l; cause = top.cause; item = i })
-answer_kept line top before after l i extends more handed found has same = grind (arith, get_or_from_slice_get, slice_get_within)
+    slice_get after.lines l ≡ Some (line_origin line) → HasItem after at.cause i →
+    kept_item after at.cause i ≡ indexed_item line.items.now before.bodies at →
+    KeepsAnswer line at before after (record { line = l; cause = at.cause; item = i })
+answer_kept line at before after l i extends more handed found has same = grind (arith, get_or_from_slice_get, slice_get_within)
 
 -- an item of a body is there
 pub body_has : (items : List TrackedAssignment) (after : PartsContent) (cause : Option ℕ) (index : ℕ) → is_some cause ≡ true →

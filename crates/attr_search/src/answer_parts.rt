@@ -12,8 +12,8 @@ ghost use Rattle.attr_search.specs.inner.Pending.{IsInside, line_origin};
 ghost use Rattle.attr_search.specs.shared.Slotted.{bodies_view};
 
 use crate::bodies::{self, BodyChange, body_at, body_of};
+use crate::item_index::ItemIndex;
 use crate::matching_line::{AnsweringLine, MatchingLine};
-use crate::pending_item::PendingItem;
 use attr_lists::types::{
     AttributeId, Match, MatchKind, MatchLocation, Metadata, TrackedAssignment,
 };
@@ -124,23 +124,23 @@ impl AnswerParts {
         &mut self,
         alloc: Global,
         line: MatchingLine<'_>,
-        top: PendingItem,
+        at: ItemIndex,
     ) -> Result<MatchRef, AllocError>
-        requires inside { IsInside line.items.now self.old.bodies top }
+        requires inside { IsInside line.items.now self.old.bodies at }
         requires line { MatchOption self.old.line ⊤ (λ l. RefersTo self.old l (line_origin line)) }
-        ensures kept { IfOk result (KeepsAnswer line.entry top self.old self.new) }
+        ensures kept { IfOk result (KeepsAnswer line.entry at self.old self.new) }
         ensures refused { OnErr result (self.new ≡ self.old) }
     {
-        if top.cause.is_some() {
+        if at.cause.is_some() {
             let kept = keep_line(&mut self.lines, self.line, line)?;
             self.line = Some(kept);
             return Ok(MatchRef {
                 line: kept,
-                cause: top.cause,
-                item: top.index,
+                cause: at.cause,
+                item: at.index,
             });
         }
-        let own = line.items[top.index].clone(alloc)?;
+        let own = line.items[at.index].clone(alloc)?;
         self.items.reserve(1)?;
         let kept = keep_line(&mut self.lines, self.line, line)?;
         self.line = Some(kept);
@@ -148,7 +148,7 @@ impl AnswerParts {
         self.items.push_reserved(own);
         Ok(MatchRef {
             line: kept,
-            cause: top.cause,
+            cause: at.cause,
             item,
         })
     }

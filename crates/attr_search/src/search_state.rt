@@ -17,9 +17,9 @@ ghost use Rattle.attr_search.specs.shared.SlotContents.{empty_slots, open_slots}
 
 use crate::indexed_list::IndexedList;
 use crate::indexed_lists::IndexedLists;
+use crate::item_index::ItemIndex;
 use crate::matching_line::MatchingLine;
 use crate::path_query::PathQuery;
-use crate::pending_item::PendingItem;
 use crate::slots::AnswerSlots;
 use crate::wanted::WantedFlags;
 use attr_glob::wildmatch::MatchBuffers;
@@ -53,7 +53,7 @@ struct SearchBuffers {
     // The numbers of lists.
     numbers: Vec<usize>,
     // The items that are still to be processed.
-    stack: Vec<PendingItem>,
+    stack: Vec<ItemIndex>,
 }
 
 impl SearchState {
@@ -292,7 +292,7 @@ impl SearchState {
         let Some(items) = assigned(&mapping.value) else {
             return Ok(());
         };
-        if !self.slots.has_free(items) {
+        if self.slots.last_free(items, items.len()).is_none() {
             return Ok(());
         }
         self.slots.count_line();

@@ -1,8 +1,7 @@
 //! What a search fills: a slot for each attribute. A slot has the answer for its attribute, or none. The wanted slots are
 //! those that a search looks for. It fills the needed slots alone, and skips the others.
 
-ghost use Rattle.std.specs.Prelude.{◌≡◌, Bool, List, ◌<◌, ◌≤◌, ◌*◌, ◌+◌, ◌-◌, ◌^◌, ◌&&◌, min, ⊤, All, false, None, Some, [], IfOk, IfSome, OnErr, OnOk, MatchOption, is_none, is_some, length, map, not, option_map, set, slice_index_or};
-ghost use Rattle.std.specs.List.{list_any};
+ghost use Rattle.std.specs.Prelude.{◌≡◌, Bool, List, ◌<◌, ◌≤◌, ◌*◌, ◌+◌, ◌-◌, ◌^◌, ◌&&◌, min, ⊤, All, false, None, Some, [], IfOk, IfSome, OnErr, OnOk, MatchOption, is_none, is_some, length, map, not, option_map, set, slice_index_or, take};
 ghost use Rattle.attr_table.specs.Cut.{is_done};
 ghost use Rattle.attr_search.specs.Matches.{match_view};
 ghost use Rattle.attr_search.specs.Settings.{HaveSlots};
@@ -13,6 +12,7 @@ ghost use Rattle.attr_search.specs.shared.BodyChanges.{changed_bodies, sized_bod
 ghost use Rattle.attr_search.specs.inner.Searched.{state_wanted};
 ghost use Rattle.attr_search.specs.shared.Slotted.{BodiesHaveSlots, bodies_view};
 ghost use Rattle.attr_search.specs.shared.SlotContents.{AreFlagsAmong, AreListed, count_remaining, empty_slots, open_slots};
+ghost use Rattle.attr_search.specs.inner.Pending.{AreFilled, IsLastFree};
 ghost use Rattle.attr_search.specs.inner.SlotsView.{AllAreNeeded, AreOpen, GrowsTo};
 
 mod filling;
@@ -45,8 +45,9 @@ pub struct AnswerSlots {
     remaining: usize,
     // What the answers in slots refer to.
     parts: AnswerParts,
-    // How many items the last search popped from its stack, and how many lines it tested. They stop at `u128::MAX`.
-    taken: u128,
+    // How many slots were filled before the last search.
+    filled_before: usize,
+    // How many lines it tested. The count stops at `u128::MAX`.
     tested: u128,
 }
 
@@ -77,7 +78,7 @@ impl AnswerSlots {
             is_wanted: Vec::new(alloc),
             remaining: 0,
             parts: AnswerParts::new(alloc),
-            taken: 0,
+            filled_before: 0,
             tested: 0,
         }
     }
@@ -118,6 +119,8 @@ impl AnswerSlots {
         }
         empty(&mut self.slots, &mut self.is_open, &self.filled);
         self.filled.clear();
+        self.filled_before = 0;
+        self.tested = 0;
         self.is_ordered = true;
         self.slots.truncate(count);
         self.is_open.truncate(count);
@@ -127,7 +130,6 @@ impl AnswerSlots {
         self.remaining = wanted.count();
         self.wanted = wanted;
         self.needed = needed;
-        self.begin_counts();
         Ok(())
     }
 
@@ -147,7 +149,7 @@ impl AnswerSlots {
         self.remaining
     }
 
-    /// A copy of the slots and the bodies, with other slots wanted and no counts. Those that are needed here have to be needed there.
+    /// A copy of the slots, the bodies and the counts, with other slots wanted. Those that are needed here have to be needed there.
     ///
     /// # Errors
     ///
@@ -162,8 +164,8 @@ impl AnswerSlots {
         requires needed { length needed ≡ length self.now.answers }
         requires among { AreFlagsAmong wanted needed }
         requires more { AreFlagsAmong self.now.needed needed }
-        ensures { IfOk result (λ slots. slots
-            ≡ record self.now { wanted = wanted; needed = needed; taken = 0; tested = 0 }) }
+        ensures { IfOk result
+            (λ slots. slots ≡ record self.now { wanted = wanted; needed = needed }) }
     {
         let is_open = open_ones(alloc, &self.slots, &needed)?;
         let is_wanted = wanted.to_vec(alloc)?;
@@ -181,8 +183,8 @@ impl AnswerSlots {
             is_wanted,
             remaining,
             parts,
-            taken: 0,
-            tested: 0,
+            filled_before: self.filled_before,
+            tested: self.tested,
         })
     }
 
@@ -194,10 +196,7 @@ impl AnswerSlots {
     pub fn clone(&self, alloc: Global) -> Result<AnswerSlots, AllocError>
         ensures { IfOk result (λ slots. slots ≡ self.now) }
     {
-        let mut slots = self.copy(alloc, self.wanted.clone()?, self.needed.clone()?)?;
-        slots.taken = self.taken;
-        slots.tested = self.tested;
-        Ok(slots)
+        self.copy(alloc, self.wanted.clone()?, self.needed.clone()?)
     }
 
     /// How many slots there are.
@@ -217,17 +216,22 @@ impl AnswerSlots {
         self.is_open[number]
     }
 
-    /// Whether some item's attribute is needed and has no answer.
-    pub fn has_free(&self, items: &[TrackedAssignment]) -> bool
-        requires { HaveSlots (length self.now.answers) items.now }
-        ensures { result ≡ list_any (λ i. is_none (open_slots self.now i.id.0)) items.now }
+    /// The index of the last of the first few items whose attribute is needed and has no answer.
+    pub fn last_free(&self, items: &[TrackedAssignment], few: usize) -> Option<usize>
+        requires slots { HaveSlots (length self.now.answers) items.now }
+        requires few { few ≤ length items.now }
+        ensures { MatchOption result
+            (AreFilled (open_slots self.now) (take few items.now))
+            (IsLastFree (open_slots self.now) items.now few) }
     {
-        for item in items {
-            if self.is_free(item.id.0) {
-                return true;
+        let mut index = few;
+        while index > 0 {
+            index -= 1;
+            if self.is_free(items[index].id.0) {
+                return Some(index);
             }
         }
-        false
+        None
     }
 
     /// Whether each wanted slot is filled.
@@ -245,11 +249,11 @@ impl AnswerSlots {
         self.parts.kept()
     }
 
-    /// How many items the last search popped from its stack.
+    /// How many items the last search took, each of which filled a slot.
     pub fn taken(&self) -> u128
         ensures { result ≡ self.now.taken }
     {
-        self.taken
+        (self.filled.len() - self.filled_before) as u128
     }
 
     /// How many lines the last search tested.
@@ -272,7 +276,7 @@ impl AnswerSlots {
     pub fn begin_counts(&mut self)
         ensures { self.new ≡ record self.old { taken = 0; tested = 0 } }
     {
-        self.taken = 0;
+        self.filled_before = self.filled.len();
         self.tested = 0;
     }
 
@@ -333,10 +337,11 @@ impl AnswerSlots {
     {
         empty(&mut self.slots, &mut self.is_open, &self.filled);
         self.filled.clear();
+        self.filled_before = 0;
+        self.tested = 0;
         self.is_ordered = true;
         self.remaining = self.wanted.count();
         self.parts.keep_none();
-        self.begin_counts();
     }
 
     /// The answer for the attribute with this number. None if its slot is free, or if there is no such slot.

@@ -1,9 +1,10 @@
 -- Parts of a search, with their counts.
 use Rattle.std.proofs.Common.{◌≡◌, ℕ, zero, suc, ◌+◌, ◌-◌, ◌^◌, ◌≤◌, List, [], ◌∷◌, ◌++◌, length, Option, Some, min, refl, sym, arith, true, false}
-use Rattle.std.specs.Prelude.{is_some, sum_by}
+use Rattle.std.specs.Prelude.{is_some, sum_by, All}
 use Rattle.std.proofs.lemmas.Grind.{common_steps}
 use Rattle.std.proofs.lemmas.Bool.{cases_eq, cases_Bool}
-use Rattle.std.proofs.lemmas.List.{length-append, append-nil}
+use Rattle.std.proofs.lemmas.List.{length-append, append_assoc, append-nil}
+use Rattle.std.proofs.lemmas.List.Elements.{All-head, All-tail}
 use Rattle.std.proofs.lemmas.List.Sums.{sum_by-cons}
 use Rattle.attr_table.specs.Setting.{Item, Origin, Setting, body_of}
 use Rattle.attr_table.specs.Table.{Slots}
@@ -11,7 +12,7 @@ use Rattle.attr_table.specs.Cut.{is_done}
 use Rattle.attr_table.specs.Work.{work_of, newly_filled}
 use Rattle.attr_table.specs.shared.Walk.{Task, Walks, ends, stops, skips, fills, Searches, tasks_in, tasks_of, backwards, expands, opened, fill}
 use Rattle.attr_table.specs.shared.Walk.{free_items, left_in}
-use Rattle.attr_table.proofs.Walked.{length-tasks_in, fill_other, left_in-fill, then_walks, walks_past}
+use Rattle.attr_table.proofs.Walked.{length-tasks_in, fill_other, left_in-fill, length-opened, then_walks, walks_past}
 
 -- the greatest u128
 abbrev pub top : ℕ
@@ -60,6 +61,39 @@ pub then_searches : (bodies : List (List Item)) (wanted : List ℕ) (xs ys : Lis
     Searches bodies wanted (xs ++ ys) first third a c
 then_searches bodies wanted xs ys first second third a b c p q =
     grind (arith, length-append xs ys, then_walks bodies (is_done wanted) xs ys first second third, newly_filled-through first second third)
+
+-- a task is passed over whose slot is filled
+passes_task : (bodies : List (List Item)) (wanted : List ℕ) (t : Task) (ts : List Task) (before after : Slots) (a b : ℕ) →
+    is_some (before t.item.attribute) ≡ true →
+    Searches bodies wanted ts before after a b → Searches bodies wanted (t ∷ ts) before after a b
+passes_task bodies wanted t ts before after a b filled p = grind (arith, skips)
+
+-- and so are items whose slots are filled
+pub passes_items : (bodies : List (List Item)) (wanted : List ℕ) (origin : Origin) (cause : Option ℕ) (items : List Item) (ts : List Task)
+    (before after : Slots) (a b : ℕ) →
+    All (λ i. is_some (before i.attribute) ≡ true) items → Searches bodies wanted ts before after a b →
+    Searches bodies wanted (tasks_in origin cause items ++ ts) before after a b
+passes_items bodies wanted origin cause [] ts before after a b filled p = p
+passes_items bodies wanted origin cause (i ∷ items) ts before after a b filled p =
+    let P : Item → Type 0 = λ i. is_some (before i.attribute) ≡ true in
+    let t : Task = record { origin = origin; item = i; cause = cause } in
+    let first = passes_task bodies wanted t ts before after a b (All-head P i items filled) p in
+    let rest = passes_items bodies wanted origin cause items (t ∷ ts) before after a b (All-tail P i items filled) first in
+    grind (arith, append_assoc)
+
+-- a task fills its slot, and if it sets its attribute, the items of its body come next
+pub fills_task : (bodies : List (List Item)) (wanted : List ℕ) (t : Task) (ts : List Task) (before next after : Slots) (a b : ℕ) →
+    next ≡ fill bodies t before → is_done wanted before ≡ false → is_some (before t.item.attribute) ≡ false →
+    Searches bodies wanted (opened bodies t ++ ts) next after (a + 1) b → Searches bodies wanted (t ∷ ts) before after a b
+fills_task bodies wanted t ts before next after a b is undone empty p =
+    let q = rw is at p in
+    let one = newly_one before (fill bodies t before) t.item.attribute in
+    record {
+      walks = fills undone empty q.walks;
+      most = omega (arith, length-append (opened bodies t) ts, length-opened bodies t, left_in-fill bodies t before empty, q.most);
+      least = λ n. let least = q.least n in
+          grind (arith, newly_filled-through before (fill bodies t before) after n, fill_other, one n);
+    }
 
 -- a task is taken whose slot is filled
 pub taken_skip : (bodies : List (List Item)) (wanted : List ℕ) (t : Task) (ts : List Task) (before after : Slots) (a b c : ℕ) →

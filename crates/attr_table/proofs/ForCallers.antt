@@ -15,8 +15,10 @@ pub use Rattle.attr_table.proofs.Walked.{fill_keeps, fill_other, then_walks}
 -- Parts of a search, with their counts. `nothing_taken`: a search without tasks changes nothing. `done_taken`: neither does one whose
 -- wanted attributes have answers. `then_searches`: one part after another. `taken_skip`: a task whose slot is filled.
 -- `taken_closed`, `taken_open`: a task that fills its slot, and sets no macro, or sets one. `row_filled`: items none of which is free.
--- `row_searched`: the free items count for all items.
+-- `row_searched`: the free items count for all items. `passes_items`: items whose slots are filled are passed over. `fills_task`: a task
+-- fills its slot, and the items of the body that it opens come next.
 pub use Rattle.attr_table.proofs.Counted.{nothing_taken, done_taken, then_searches, taken_skip, taken_closed, taken_open, row_filled, row_searched}
+pub use Rattle.attr_table.proofs.Counted.{passes_items, fills_task}
 -- Counts. `top`: the greatest count. `left_in-less`: a task that fills its slot takes its body off the items that are left.
 -- `left_in-open`: with the free items of the body on the stack there is no more work than before. `taken_most`: a search takes no
 -- more than the work of its setting. `taken_least`: it takes no less than the slots that it fills.

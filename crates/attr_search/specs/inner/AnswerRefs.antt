@@ -5,8 +5,8 @@ use Rattle.attr_lists.specs.declared.types.TrackedAssignment.{TrackedAssignment}
 use Rattle.attr_table.specs.Setting.{Origin}
 use Rattle.attr_search.specs.Slots.{Matched}
 use Rattle.attr_search.specs.declared.matching_line.MatchingLine.{MatchingLine}
-use Rattle.attr_search.specs.declared.pending_item.PendingItem.{PendingItem}
-use Rattle.attr_search.specs.inner.Pending.{item_answer, line_origin, no_item, pending_item}
+use Rattle.attr_search.specs.declared.item_index.ItemIndex.{ItemIndex}
+use Rattle.attr_search.specs.inner.Pending.{item_answer, line_origin, no_item, indexed_item}
 use Rattle.attr_search.specs.inner.PartsContents.{KeepsOneMore, KeepsParts, PartsContent}
 use Rattle.attr_search.specs.shared.Slotted.{no_origin}
 use Rattle.attr_search.specs.declared.answer_parts.MatchRef.{MatchRef}
@@ -56,9 +56,9 @@ abbrev pub AreMatchRefs : PartsContent → List (Option MatchRef) → Type 0
 AreMatchRefs parts slots = All (λ slot. MatchOption slot ⊤ (IsMatchRef parts)) slots
 
 -- the parts of an answer are kept, beside what was kept before
-pub record KeepsAnswer (line : MatchingLine) (top : PendingItem) (before after : PartsContent) (m : MatchRef) : Type 0 where
+pub record KeepsAnswer (line : MatchingLine) (at : ItemIndex) (before after : PartsContent) (m : MatchRef) : Type 0 where
   pub extends : KeepsParts before after
   pub more : KeepsOneMore before after
   pub at_hand : MatchOption after.line ⊤ (λ l. RefersTo after l (line_origin line))
   pub within : IsMatchRef after m
-  pub found : match_by_ref after m ≡ item_answer line before.bodies (pending_item line.items.now before.bodies top) top.cause
+  pub found : match_by_ref after m ≡ item_answer line before.bodies (indexed_item line.items.now before.bodies at) at.cause

@@ -1,11 +1,12 @@
--- What waits on the stack of a search (own). Nothing here has to be believed.
-use Rattle.std.specs.Prelude.{◌≡◌, ◌==◌, ℕ, ◌<◌, not, List, [], ◌∷◌, ◌++◌, length, All, Option, Some, None, slice_index_or}
+-- What is still to be processed of a line, and on the stack of a search (own). Nothing here has to be believed.
+use Rattle.std.specs.Prelude.{◌≡◌, ◌==◌, ℕ, ◌<◌, ◌≤◌, ◌+◌, ◌||◌, ⊤, Bool, not, true, false, List, [], length, take, drop, All, Option, Some, None, is_some}
+use Rattle.std.specs.Prelude.{slice_index_or, MatchOption, if◌then◌else◌}
 use Rattle.attr_text.specs.declared.state.State.TheVariants.{Unspecified}
 use Rattle.attr_lists.specs.declared.types.TrackedAssignment.{TrackedAssignment}
 use Rattle.attr_table.specs.Setting.{Origin}
 use Rattle.attr_table.specs.Table.{Slots}
-use Rattle.attr_table.specs.shared.Walk.{Task, backwards, tasks_in, free_items}
-use Rattle.attr_search.specs.declared.pending_item.PendingItem.{PendingItem}
+use Rattle.attr_table.specs.shared.Walk.{Task, backwards, tasks_in}
+use Rattle.attr_search.specs.declared.item_index.ItemIndex.{ItemIndex}
 use Rattle.attr_search.specs.declared.matching_line.MatchingLine.{MatchingLine}
 use Rattle.attr_search.specs.Slots.{Matched, table_item, table_items}
 use Rattle.attr_search.specs.shared.Slotted.{index_origin}
@@ -32,32 +33,42 @@ items_beside items bodies (Some attribute) = slice_index_or bodies attribute []
 abbrev pub no_item : TrackedAssignment
 no_item = record { id = record { 0 = 0 }; inner = record { name = []; state = Unspecified } }
 
--- the item that waits
-abbrev pub pending_item : List TrackedAssignment → List (List TrackedAssignment) → PendingItem → TrackedAssignment
-pending_item items bodies w = slice_index_or (items_beside items bodies w.cause) w.index no_item
+-- the item at an index, and that there is one
+abbrev pub indexed_item : List TrackedAssignment → List (List TrackedAssignment) → ItemIndex → TrackedAssignment
+indexed_item items bodies at = slice_index_or (items_beside items bodies at.cause) at.index no_item
 
--- there is one
-abbrev pub IsInside : List TrackedAssignment → List (List TrackedAssignment) → PendingItem → Type 0
-IsInside items bodies w = w.index < length (items_beside items bodies w.cause)
+abbrev pub IsInside : List TrackedAssignment → List (List TrackedAssignment) → ItemIndex → Type 0
+IsInside items bodies at = at.index < length (items_beside items bodies at.cause)
 
-abbrev pub task_of : Origin → List TrackedAssignment → List (List TrackedAssignment) → PendingItem → Task
-task_of origin items bodies w =
-    record { origin = origin; item = table_item (pending_item items bodies w); cause = w.cause }
+-- there are these items, and as many before the index
+pub record HasItemsBefore (items : List TrackedAssignment) (bodies : List (List TrackedAssignment)) (at : ItemIndex) : Type 0 where
+  pub cause : MatchOption at.cause ⊤ (λ number. number < length bodies)
+  pub index : at.index ≤ length (items_beside items bodies at.cause)
 
--- what waits, the top of the stack first
-abbrev pub pending_tasks : Origin → List TrackedAssignment → List (List TrackedAssignment) → List PendingItem → List Task
-pending_tasks origin items bodies stack = backwards (λ w. task_of origin items bodies w ∷ []) stack
+-- the task of the item at an index, and those of the items before it
+abbrev pub task_at : Origin → List TrackedAssignment → List (List TrackedAssignment) → ItemIndex → Task
+task_at origin items bodies at =
+    record { origin = origin; item = table_item (indexed_item items bodies at); cause = at.cause }
 
--- the free ones of some items were pushed, the last on top
-abbrev pub PushesFree : Slots → Option ℕ → List TrackedAssignment → List PendingItem → List PendingItem → Type 0
-PushesFree slots cause items before after =
-    (origin : Origin) (line : List TrackedAssignment) (bodies : List (List TrackedAssignment)) →
-    items_beside line bodies cause ≡ items →
-    pending_tasks origin line bodies after
-    ≡ tasks_in origin cause (free_items slots (table_items items)) ++ pending_tasks origin line bodies before
+abbrev pub tasks_before : Origin → List TrackedAssignment → List (List TrackedAssignment) → ItemIndex → List Task
+tasks_before origin items bodies at = tasks_in origin at.cause (table_items (take at.index (items_beside items bodies at.cause)))
 
--- what was pushed is there
-abbrev pub PushesInside : Option ℕ → List TrackedAssignment → List PendingItem → List PendingItem → Type 0
-PushesInside cause items before after =
-    (line : List TrackedAssignment) (bodies : List (List TrackedAssignment)) → items_beside line bodies cause ≡ items →
-    All (IsInside line bodies) before → All (IsInside line bodies) after
+-- those of the items before the indexes on the stack, the top of the stack first
+abbrev pub stacked_tasks : Origin → List TrackedAssignment → List (List TrackedAssignment) → List ItemIndex → List Task
+stacked_tasks origin items bodies stack = backwards (tasks_before origin items bodies) stack
+
+-- the end of the body of an attribute, if it is expanded and the body has items
+abbrev pub end_of_body : List (List TrackedAssignment) → ℕ → Bool → Option ItemIndex
+end_of_body bodies number is_expanded =
+    let body = slice_index_or bodies number [] in
+    if not is_expanded || length body == 0 then None else Some (record { cause = Some number; index = length body })
+
+-- the slots of all these items are filled
+abbrev pub AreFilled : Slots → List TrackedAssignment → Type 0
+AreFilled slots items = All (λ i. is_some (slots i.id.0) ≡ true) items
+
+-- an item's slot is free, and those of the items between it and the end are filled
+pub record IsLastFree (slots : Slots) (items : List TrackedAssignment) (end index : ℕ) : Type 0 where
+  pub before : index < end
+  pub free : is_some (slots (slice_index_or items index no_item).id.0) ≡ false
+  pub others : AreFilled slots (drop (index + 1) (take end items))

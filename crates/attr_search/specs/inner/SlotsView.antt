@@ -20,7 +20,7 @@ slots_view b =
       line = option_map (line_by_ref b.parts) b.parts.line;
       bodies = b.parts.bodies;
       kept = length b.parts.lines + length b.parts.items;
-      taken = b.taken;
+      taken = length b.filled.items - b.filled_before;
       tested = b.tested;
     }
 
@@ -56,6 +56,7 @@ pub record AreSoundSlots (b : Inside) : Type 0 where
   pub line : MatchOption b.parts.line ⊤ (λ l. l < length b.parts.lines)
   pub counted : b.remaining ≡ count_remaining b.wanted b.slots.items
   pub listed : AreListed b.slots.items b.filled.items
+  pub before : b.filled_before ≤ length b.filled.items
   pub ordered : b.is_ordered ≡ true → IsNonDecreasing b.filled.items
   -- there are no more lines and items than answers
   pub few_lines : length b.parts.lines ≤ length (filled_in b.slots.items)

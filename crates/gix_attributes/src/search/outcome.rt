@@ -264,7 +264,9 @@ impl Outcome {
         let wanted = selection::flags(alloc, &selected, collection.len())?;
         let needed = WantedFlags::all_or_none(alloc, self.state.slots.len(), true);
         let macros = self.macros.clone()?;
-        dest.state.slots = self.state.slots.copy(alloc, wanted, needed)?;
+        let mut slots = self.state.slots.copy(alloc, wanted, needed)?;
+        slots.begin_counts();
+        dest.state.slots = slots;
         dest.macros = macros;
         dest.owners = None;
         dest.selected = selected;
@@ -339,7 +341,7 @@ impl Outcome {
         self.state.slots.kept()
     }
 
-    /// How many items the last search popped from its stack. It stops at `u128::MAX`.
+    /// How many items the last search took, each of which filled a slot. Items whose attributes had answers are passed over.
     pub fn taken(&self) -> u128
         ensures { result ≡ self.now.taken }
     {

@@ -13,7 +13,7 @@ returns-then-is_some-clause-kept c =
     let b = c.self.inside in
     let items = c.args.line.items.now in
     let bodies = bodies_view b.bodies.items in
-    let top = c.args.top in
+    let top = c.args.at in
     let lines = c.keep_line.new.lines.items in
     let after : PartsContent = record
     { lines = origins lines; line = Some c.in_ok-kept.kept; items = b.items.items; bodies = bodies } in
@@ -32,7 +32,7 @@ returns-clause-kept c =
     let b = c.self.inside in
     let items = c.args.line.items.now in
     let bodies = bodies_view b.bodies.items in
-    let top = c.args.top in
+    let top = c.args.at in
     let own = c.in_ok-own.own in
     let before = b.items.items in
     let lines = c.keep_line-2.new.lines.items in
@@ -42,8 +42,8 @@ returns-clause-kept c =
     let pushed : c.push_reserved.new.self.items ≡ before ++ own ∷ [] =
     c.push_reserved.ensures.items ∙ ap (λ l. l ++ own ∷ []) c.reserve.ensures.items in
     let index : c.len-item.result ≡ length before = omega (arith, c.len-item.ensures, ap length c.reserve.ensures.items) in
-    let has = own_has items bodies after top.cause top.index c.index-line-top.result own before (sym c.is_some.ensures ∙ c.if-is_some.false)
-    inside c.index-line-top.is (c.in_ok-own.ensures ∙ sym c.index-line-top.is) pushed in
+    let has = own_has items bodies after top.cause top.index c.index-line-at.result own before (sym c.is_some.ensures ∙ c.if-is_some.false)
+    inside c.index-line-at.is (c.in_ok-own.ensures ∙ sym c.index-line-at.is) pushed in
     rw (← c.self.view_is) (answer_kept c.args.line top (answer_parts_view b) after c.in_ok-kept-2.kept c.len-item.result
     (record { lines = c.in_ok-kept-2.ensures.extends; items = (own ∷ [], pushed); bodies = refl })
     (record {

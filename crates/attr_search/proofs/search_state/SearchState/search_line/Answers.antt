@@ -2,24 +2,27 @@ use Rattle.std.proofs.Common.{ap, refl, inr, arith}
 use Rattle.std.proofs.lemmas.Result.{on_ok_weaker}
 use Rattle.attr_search.specs.IndexedLists.{listed_view}
 use Rattle.attr_search.specs.inner.Searched.{over, round}
+use Rattle.attr_search.specs.shared.SlotContents.{open_slots}
 use Rattle.attr_search.specs.shared.Slotted.{index_origin}
-use Rattle.attr_search.proofs.LineLemmas.{line_defines, line_differs, line_filled, line_matched, named_at, origin_is, slots_at}
+use Rattle.attr_search.proofs.LineLemmas.{line_defines, line_differs, line_filled, line_matched, named_at, none_told, origin_is, slots_at}
 use Rattle.attr_search.proofs.SearchedLemmas.{state_kept}
 use Rattle.attr_search.proofs.search_state.SearchState.search_line.Goals as goal
 
 pub returns-in_default : goal.returns-in_default
 returns-in_default c = grind (arith, state_kept, line_defines)
 
-pub has_free-requires : goal.has_free-requires
-has_free-requires c =
+pub last_free-requires-clause-slots : goal.last_free-requires-clause-slots
+last_free-requires-clause-slots c =
     slots_at _ c.args.list.now.list.patterns.items c.args.index c.index-mapping.result.now c.in-Some.items.now c.requires.index
     c.index-mapping.ensures c.in-Some.ensures.items c.requires.in_lines
 
-pub returns-then-not-has_free : goal.returns-then-not-has_free
-returns-then-not-has_free c = record {
+pub returns-then-is_none : goal.returns-then-is_none
+returns-then-is_none c = record {
   kept = state_kept c.args.self.now.slots;
   done = line_filled c.args.rest c.args.list.now c.args.index c.index-mapping.result.now c.in-Some.items.now c.args.self.now.slots
-      c.requires.index c.index-mapping.ensures c.in-Some.ensures.items c.if-not-has_free.ensures;
+      c.requires.index c.index-mapping.ensures c.in-Some.ensures.items
+      (none_told _ (open_slots c.args.self.now.slots) c.in-Some.items.now c.last_free.result c.last_free.ensures
+      c.if-is_none.ensures);
 }
 
 pub returns-then-not-branch : goal.returns-then-not-branch

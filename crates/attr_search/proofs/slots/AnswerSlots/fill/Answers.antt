@@ -1,6 +1,6 @@
 use Rattle.std.proofs.Common.{◌≡◌, ◌<◌, ◌++◌, [], ◌∷◌, length, false, true, get_or, is_some, None, Some, sym, ap, ◌∙◌, arith}
 use Rattle.std.proofs.Math.ListN.{length-set, length-map}
-use Rattle.std.proofs.lemmas.List.{get_or_default}
+use Rattle.std.proofs.lemmas.List.{get_or_default, length-append}
 use Rattle.std.proofs.lemmas.Option.{IfSome_then, slice_get_within}
 use Rattle.std.proofs.lemmas.List.Elements.{All-push}
 use Rattle.attr_search.specs.inner.SlotsView.{slots_view}
@@ -51,6 +51,7 @@ invariant_of-self-2 c =
       counted = grind (arith, fill_counts);
       listed = rw pushed (listed_filled b.slots.items b.filled.items number (Some c.in_ok-found.found)
           (listed_more b.slots.items b.filled.items number within c.self.invariant.listed));
+      before = grind (arith, length-append);
       ordered = λ t. absurd (false≢true t);
       few_lines = grind (arith, filled_set);
       few_items = grind (arith, filled_set);
@@ -61,5 +62,5 @@ returns-clause-filled c = record {
   inside = c.requires.inside;
   within = rw c.requires.own at c.requires.within;
   free = rw c.requires.own at c.requires.free;
-  filled = grind (arith, matches_filled);
+  filled = grind (arith, matches_filled, length-append, c.self.invariant.before);
 }

@@ -1,43 +1,123 @@
-use Rattle.std.proofs.Common.{All, refl}
-use Rattle.std.proofs.lemmas.Result.{on_ok_weaker}
-use Rattle.std.proofs.lemmas.List.Elements.{All-nil}
-use Rattle.attr_search.specs.inner.Pending.{IsInside, line_origin}
+use Rattle.std.proofs.Common.{◌≡◌, ◌∙◌, ap, arith, get_or, refl, sym}
+use Rattle.std.proofs.lemmas.List.{get_or_default}
+use Rattle.attr_table.proofs.ForCallers.{done_taken}
+use Rattle.attr_search.specs.inner.Filling.{tasks_left}
+use Rattle.attr_search.specs.inner.Pending.{items_beside, no_item}
+use Rattle.attr_search.specs.inner.Searched.{state_bodies, state_wanted}
 use Rattle.attr_search.specs.shared.SlotContents.{open_slots}
-use Rattle.attr_search.proofs.FillingLemmas.{line_walked}
+use Rattle.attr_search.proofs.FillingLemmas.{at_body, at_item, at_top, ends_line, fewer_filled, fewer_opened, fills_by, fills_kept}
+use Rattle.attr_search.proofs.FillingLemmas.{leads_closed, leads_opened, leads_pop, line_done, then_by}
+use Rattle.attr_search.proofs.SearchedLemmas.{then_kept}
 use Rattle.attr_search.proofs.slots.AnswerSlots.fill_line.Goals as goal
 
-pub run_stack-requires : goal.run_stack-requires
-run_stack-requires c =
+pub returns-in_default-pop : goal.returns-in_default-pop
+returns-in_default-pop c =
+    let now = c.loop-alloc.self in
     let line = c.args.line in
-    let empty : All (IsInside line.items.now c.begin_line.new.self.bodies) c.clear.new.self.items =
-    rw c.clear.ensures.items (All-nil (IsInside line.items.now c.begin_line.new.self.bodies)) in
+    let is = c.items-items.ensures ∙ ap (λ bodies. items_beside line.items.now bodies c.loop-alloc.at.cause) c.bodies.ensures.bodies in
+    let x = c.in_default-pop.ensures.cases in
+    let ends = ends_line line now c.loop-alloc.at c.loop-alloc.stack.items (rw is at c.in_default.ensures) (omega arith) in
+    let done = line_done line c.args.self.now c.begin_line.new.self now c.clear.new.self.items c.begin_line.ensures.begun c.clear.ensures.items
+    c.loop-alloc.invariant.kept c.loop-alloc.invariant.by (c.loop-alloc.invariant.filled (open_slots now) now.taken ends) in
+    record { kept = done.0; done = done.1 }
+
+pub loop-alloc-preserved-in_default : goal.loop-alloc-preserved-in_default
+loop-alloc-preserved-in_default c =
+    let now = c.loop-alloc.self in
+    let line = c.args.line in
+    let is = c.items-items.ensures ∙ ap (λ bodies. items_beside line.items.now bodies c.loop-alloc.at.cause) c.bodies.ensures.bodies in
+    let top = c.in-Some-pop.top in
+    let rest = c.pop.new.self.items in
     record {
-      at_line =
-          record {
-            bodies = c.begin_line.ensures.bodies;
-            in_line = rw c.begin_line.ensures.begun c.requires;
-            inside = c.in_ok-push_free.ensures.inside line.items.now c.begin_line.new.self.bodies refl empty;
-            origin = rw c.begin_line.ensures.begun tt;
-          };
+      at_line = at_top top rest c.loop-alloc.invariant.at_line c.in-Some-pop.ensures.items;
+      kept = c.loop-alloc.invariant.kept;
+      by = c.loop-alloc.invariant.by;
+      filled = λ final later p. c.loop-alloc.invariant.filled final later
+          (leads_pop line now c.loop-alloc.at top c.loop-alloc.stack.items rest (rw is at c.in_default.ensures) c.in-Some-pop.ensures.items
+          final later p);
     }
 
 pub returns : goal.returns
 returns c =
+    let now = c.loop-alloc.self in
     let line = c.args.line in
-    let before = c.args.self.now in
-    let kept = rw c.begin_line.ensures.begun at c.run_stack.ensures.kept in
+    let ends = done_taken (state_bodies now) (state_wanted now) (tasks_left line now c.loop-alloc.at c.loop-alloc.stack.items)
+    (open_slots now) now.taken
+    (sym c.loop-alloc-test.ensures) in
+    let done = line_done line c.args.self.now c.begin_line.new.self now c.clear.new.self.items c.begin_line.ensures.begun c.clear.ensures.items
+    c.loop-alloc.invariant.kept c.loop-alloc.invariant.by (c.loop-alloc.invariant.filled (open_slots now) now.taken ends) in
+    record { kept = done.0; done = done.1 }
+
+pub loop-alloc-smaller-in-Some-end_of_body : goal.loop-alloc-smaller-in-Some-end_of_body
+loop-alloc-smaller-in-Some-end_of_body c =
+    let now = c.loop-alloc.self in
+    let line = c.args.line in
+    let is = c.items-items.ensures ∙ ap (λ bodies. items_beside line.items.now bodies c.loop-alloc.at.cause) c.bodies.ensures.bodies in
+    let last = rw is at c.in-Some.ensures in
+    let own : c.index-items-index.result ≡ get_or (items_beside line.items.now now.bodies c.loop-alloc.at.cause) c.in-Some.index no_item =
+    grind (arith, is, get_or_default) in
+    let kept = fills_kept now c.fill.new.self c.in_ok-fill.ensures.filled in
+    let known = c.bodies-in-loop-alloc.ensures.bodies ∙ kept.bodies in
+    rw c.in_ok-push.ensures.items
+    (fewer_opened now c.fill.new.self c.loop-alloc.at c.in-Some-end_of_body.body c.loop-alloc.stack.items _
+    c.in_ok-fill.ensures.filled last.before (rw (known, own) at (sym c.in-Some-end_of_body.ensures)))
+
+pub loop-alloc-preserved-in-Some-end_of_body : goal.loop-alloc-preserved-in-Some-end_of_body
+loop-alloc-preserved-in-Some-end_of_body c =
+    let now = c.loop-alloc.self in
+    let line = c.args.line in
+    let at = c.loop-alloc.at in
+    let stack = c.loop-alloc.stack.items in
+    let after = c.fill.new.self in
+    let body = c.in-Some-end_of_body.body in
+    let filled = c.in_ok-fill.ensures.filled in
+    let is = c.items-items.ensures ∙ ap (λ bodies. items_beside line.items.now bodies at.cause) c.bodies.ensures.bodies in
+    let last = rw is at c.in-Some.ensures in
+    let own : c.index-items-index.result ≡ get_or (items_beside line.items.now now.bodies at.cause) c.in-Some.index no_item =
+    grind (arith, is, get_or_default) in
+    let kept = fills_kept now after filled in
+    let known = c.bodies-in-loop-alloc.ensures.bodies ∙ kept.bodies in
+    let by = fills_by now after filled in
+    rw c.in_ok-push.ensures.items (record {
+      at_line = at_body after c.index-items-index.result.id.0 _
+          (at_item now after c.loop-alloc.invariant.at_line filled refl last.before c.in_ok-fill.ensures.line)
+          (grind (arith, own, kept.len, filled.within)) (rw c.bodies-in-loop-alloc.ensures.bodies at (sym c.in-Some-end_of_body.ensures));
+      kept = then_kept c.begin_line.new.self now after c.loop-alloc.invariant.kept kept;
+      by = then_by c.begin_line.new.self now after c.loop-alloc.invariant.kept c.loop-alloc.invariant.by by;
+      filled = λ final later p. c.loop-alloc.invariant.filled final later
+          (leads_opened now after at body stack filled c.loop-alloc.invariant.at_line.within refl last (sym c.loop-alloc-test.ensures)
+          (rw (known, c.is_set-is_expanded.ensures, own) at (sym c.in-Some-end_of_body.ensures))
+          final later p);
+    })
+
+pub loop-alloc-smaller : goal.loop-alloc-smaller
+loop-alloc-smaller c =
+    let now = c.loop-alloc.self in
+    let line = c.args.line in
+    let is = c.items-items.ensures ∙ ap (λ bodies. items_beside line.items.now bodies c.loop-alloc.at.cause) c.bodies.ensures.bodies in
+    let last = rw is at c.in-Some.ensures in
+    fewer_filled now c.fill.new.self c.loop-alloc.at c.loop-alloc.stack.items c.in_ok-fill.ensures.filled last.before
+
+pub loop-alloc-preserved : goal.loop-alloc-preserved
+loop-alloc-preserved c =
+    let now = c.loop-alloc.self in
+    let line = c.args.line in
+    let at = c.loop-alloc.at in
+    let stack = c.loop-alloc.stack.items in
+    let after = c.fill.new.self in
+    let filled = c.in_ok-fill.ensures.filled in
+    let is = c.items-items.ensures ∙ ap (λ bodies. items_beside line.items.now bodies at.cause) c.bodies.ensures.bodies in
+    let last = rw is at c.in-Some.ensures in
+    let own : c.index-items-index.result ≡ get_or (items_beside line.items.now now.bodies at.cause) c.in-Some.index no_item =
+    grind (arith, is, get_or_default) in
+    let kept = fills_kept now after filled in
+    let known = c.bodies-in-loop-alloc.ensures.bodies ∙ kept.bodies in
+    let by = fills_by now after filled in
     record {
-      kept = record { wanted = kept.wanted; needed = kept.needed; bodies = kept.bodies; len = kept.len; skipped = kept.skipped };
-      done = on_ok_weaker c.run_stack.result
-          (λ filled. record {
-            by =
-                record {
-                  named = rw c.begin_line.ensures.begun at filled.by.named;
-                  tested = rw c.begin_line.ensures.begun at filled.by.tested;
-                };
-            searches = line_walked line before c.begin_line.new.self (open_slots c.run_stack.new.self) c.clear.new.self.items
-                c.push_free.new.stack.items c.run_stack.new.self.taken c.begin_line.ensures.begun c.clear.ensures.items
-                (c.in_ok-push_free.ensures.pushed (line_origin line) line.items.now c.begin_line.new.self.bodies refl) filled.searches;
-          })
-          c.run_stack.ensures.done;
+      at_line = at_item now after c.loop-alloc.invariant.at_line filled refl last.before c.in_ok-fill.ensures.line;
+      kept = then_kept c.begin_line.new.self now after c.loop-alloc.invariant.kept kept;
+      by = then_by c.begin_line.new.self now after c.loop-alloc.invariant.kept c.loop-alloc.invariant.by by;
+      filled = λ final later p. c.loop-alloc.invariant.filled final later
+          (leads_closed now after at stack filled c.loop-alloc.invariant.at_line.within refl last (sym c.loop-alloc-test.ensures)
+          (rw (known, c.is_set-is_expanded.ensures, own) at (sym c.in_default-end_of_body.ensures)) final later p);
     }

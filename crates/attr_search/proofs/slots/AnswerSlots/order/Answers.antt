@@ -1,5 +1,6 @@
 use Rattle.std.specs.Prelude.{◌≡◌, false, slice_index_or, true}
-use Rattle.std.proofs.lemmas.List.Sorted.{All-permutation, IsNonDecreasingBy-from_sort}
+use Rattle.std.proofs.Common.{arith}
+use Rattle.std.proofs.lemmas.List.Sorted.{All-permutation, IsNonDecreasingBy-from_sort, length_permutation}
 use Rattle.attr_search.proofs.ListedLemmas.{listed_permuted}
 use Rattle.attr_search.proofs.slots.AnswerSlots.order.Goals as goal
 
@@ -20,6 +21,7 @@ invariant_of-self c =
       line = c.self.invariant.line;
       counted = c.self.invariant.counted;
       listed = listed_permuted b.slots.items b.filled.items sorted c.sort_unstable.ensures.permutation c.self.invariant.listed;
+      before = omega (arith, c.self.invariant.before, length_permutation b.filled.items sorted c.sort_unstable.ensures.permutation);
       ordered = λ t. IsNonDecreasingBy-from_sort (λ n. n) sorted c.sort_unstable.ensures.sorted;
       few_lines = c.self.invariant.few_lines;
       few_items = c.self.invariant.few_items;

@@ -28,6 +28,7 @@ invariant_of-self c =
       counted = c.count-self-inside.ensures ∙ sym (count_empty MatchRef b.wanted b.slots.items same)
           ∙ ap (count_remaining b.wanted) (sym c.empty.ensures.items);
       listed = rw c.clear.ensures.items (empty_listed c.empty.new.slots.items b.slots.items c.empty.ensures.items);
+      before = omega arith;
       ordered = λ t. rising_nothing c.clear.new.self.items c.clear.ensures.items;
       few_lines = rw c.keep_none.ensures (omega arith);
       few_items = rw c.keep_none.ensures (omega arith);

@@ -66,6 +66,7 @@ invariant_of-self-2 c =
       line = rw made tt;
       counted = c.count-self-inside.ensures ∙ sym (count_empty MatchRef wanted wanted refl) ∙ ap (count_remaining wanted) (sym cut);
       listed = rw c.clear.ensures.items (empty_listed slots wanted cut);
+      before = omega arith;
       ordered = λ t. rising_nothing c.clear.new.self.items c.clear.ensures.items;
       few_lines = rw made (omega arith);
       few_items = rw made (omega arith);
