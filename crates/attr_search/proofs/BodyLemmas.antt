@@ -1,7 +1,6 @@
 -- How bodies grow and change.
 use Rattle.std.proofs.Common.{◌≡◌, ℕ, ◌+◌, ◌-◌, ◌<◌, List, [], ◌∷◌, ◌++◌, length, length-take, set, take, replicate, All, None, append_assoc}
-use Rattle.std.proofs.Common.{Bool, false, Result, Ok, Err, is_err, length-append, refl, sym, arith}
-use Rattle.std.specs.Result.{OnOk}
+use Rattle.std.proofs.Common.{ap, length-append, refl, sym, arith}
 use Rattle.std.proofs.lemmas.List.{length-replicate, take-map, length-map, length-set, map_push, map-set, replicate_more, take-append-le}
 use Rattle.std.proofs.lemmas.List.Elements.{All-same, All-tail}
 use Rattle.attr_lists.specs.declared.types.TrackedAssignment.{TrackedAssignment}
@@ -30,10 +29,11 @@ change_below left rest change bodies e below =
     let all = All-same (λ c. c.number < length bodies) (change ∷ rest) left (sym e) below in
     rw (length-set bodies change.number change.body) (All-tail (λ c. c.number < length bodies) change rest all)
 
--- what holds of a value, and of an error
-pub told_ok : {T E F : Type 0} (r : Result T E) (b : Bool) → b ≡ is_err r → b ≡ false → OnOk r F → F
-told_ok (Ok x) b e is h = h
-told_ok (Err x) b e is h = absurd cc
+-- bodies that were grown are cut to a count
+pub length_grown : (old grown cut : List SharedBody) (count : ℕ) →
+    bodies_view grown ≡ bodies_view old ++ replicate (count - length old) [] → cut ≡ take count grown → length cut ≡ count
+length_grown old grown cut count grows is =
+    let many = ap length grows in grind (arith, many, length-map, length-append, length-replicate, length-take)
 
 -- and to as many as wanted
 pub cut_sized : (old grown cut : List SharedBody) (bodies : List (List TrackedAssignment)) (count n : ℕ) → count ≡ n →

@@ -2,8 +2,7 @@
 use Rattle.std.proofs.Common.{◌≡◌, ℕ, zero, suc, ◌+◌, ◌<◌, ◌≤◌, List, [], ◌∷◌, ◌++◌, length, get_or, take, drop, map, Option, Some, None}
 use Rattle.std.proofs.Common.{refl, ap, ◌∙◌}
 use Rattle.std.proofs.Common.{⊎_elim, arith, Bool, ◌||◌, true, false}
-use Rattle.std.specs.Prelude.{is_some, not, ◌==◌, All, MatchOption, slice_index_or, if◌then◌else◌}
-use Rattle.std.specs.Bool.{⊤}
+use Rattle.std.specs.Prelude.{is_some, not, ◌==◌, All, slice_index_or, if◌then◌else◌}
 use Rattle.std.proofs.Math.ListN
 use Rattle.std.proofs.lemmas.Bool.{false≢true, cases_eq, eq-eqb, ne_eqb, cases_lt}
 use Rattle.std.proofs.lemmas.List.{map-append, get_or_past, get_or-set_same, get_or-set_other, length-set, length-take, take_all, append_assoc}
@@ -67,7 +66,7 @@ pub fills_by : {line : MatchingLine} {at : ItemIndex} (before after : SearchCont
 fills_by {line} {at} before after p = record {
   named = λ names h b held a.
       let own = own_item line at before in
-      let answer = item_answer line before.bodies own at.cause in
+      let answer = item_answer (line_origin line) before.bodies own at.cause in
       ⊎_elim
       (λ (f : a ≡ own.id.0).
       let g = get_or-set_same before.answers own.id.0 (Some answer) None p.within in
@@ -235,8 +234,8 @@ at_top {line} {state} top {stack} rest held is =
 
 pub at_item : {line : MatchingLine} {at own : ItemIndex} {stack : List ItemIndex} (before after : SearchContents) →
     AtLine line before at stack → FillsItem line own before after → own.cause ≡ at.cause → own.index < at.index →
-    MatchOption after.line ⊤ (λ o. o ≡ line_origin line) → AtLine line after own stack
-at_item {line} {at} {own} {stack} before after held p same lt origin =
+    AtLine line after own stack
+at_item {line} {at} {own} {stack} before after held p same lt =
     let bodies : after.bodies ≡ before.bodies = grind arith in
     let count : length after.answers ≡ length before.answers = grind (arith, length-set) in
     record {
@@ -244,7 +243,7 @@ at_item {line} {at} {own} {stack} before after held p same lt origin =
       in_line = rw count held.in_line;
       within = rw bodies (record { cause = rw same held.within.cause; index = grind (arith, held.within.index) });
       inside = rw bodies held.inside;
-      origin = origin;
+      origin = grind (arith, held.origin);
     }
 
 pub at_body : {line : MatchingLine} {own next : ItemIndex} {stack : List ItemIndex} (after : SearchContents) (number : ℕ) (is_expanded : Bool) →
@@ -302,7 +301,8 @@ fewer_opened {line} {own} before after at next stack is_expanded p lt ends =
 
 -- a line that is gone through from the end of its items on an empty stack fills the slots of its items
 pub line_done : (line : MatchingLine) (old fresh now : SearchContents) (stack : List ItemIndex) →
-    fresh ≡ record old { line = None } → stack ≡ [] → KeepsState fresh now → FillsBy line.items.now fresh now →
+    fresh ≡ record old { line = Some (line_origin line); kept = old.kept + 1 } → stack ≡ [] → KeepsState fresh now →
+    FillsBy line.items.now fresh now →
     FillsTo line fresh (record { cause = None; index = length line.items.now }) stack (open_slots now) now.taken →
     KeepsState old now × Fills line.items.now (tasks_in (line_origin line) None (table_items line.items.now)) old now
 line_done line old fresh now stack begun empty kept by p =

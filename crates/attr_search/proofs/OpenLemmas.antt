@@ -3,10 +3,8 @@ use Rattle.std.proofs.Common.{◌≡◌, ℕ, suc, ◌<◌, Bool, true, false, �
 use Rattle.std.proofs.Common.{nat_eq, ◌++◌, ◌-◌, Option, Some, None, is_some, is_none, sym, ap, ◌∙◌, arith}
 use Rattle.std.specs.Prelude.{if◌then◌else◌}
 use Rattle.std.proofs.lemmas.Bool.{cases_eq, cases_lt}
-use Rattle.std.proofs.lemmas.List.Elements.{All-weaker}
 use Rattle.std.proofs.Math.Bool.{and-false, and-true}
-use Rattle.std.proofs.Math.ListN.{get_or-append}
-use Rattle.std.proofs.lemmas.List.{ext_get_or, get_or_past, get_or-append_right, get_or-set_other, get_or-set_same}
+use Rattle.std.proofs.lemmas.List.{ext_get_or, get_or_append_left, get_or_past, get_or-set_other, get_or-set_same}
 use Rattle.std.proofs.lemmas.List.{get_or-take, length-append, length-replicate, length-set, length-take}
 use Rattle.attr_table.specs.Cut.{is_done}
 use Rattle.attr_table.specs.Skipped.{narrowed, skipped_answer}
@@ -14,7 +12,7 @@ use Rattle.attr_table.specs.Table.{Slots}
 use Rattle.attr_search.specs.Slots.{is_needed, slots_of}
 use Rattle.attr_search.specs.inner.AnswerRefs.{matches_by_ref}
 use Rattle.attr_search.specs.inner.PartsContents.{PartsContent}
-use Rattle.attr_search.specs.inner.SlotsView.{AllAreNeeded, AreOpen}
+use Rattle.attr_search.specs.inner.SlotsView.{AreOpen}
 use Rattle.attr_search.specs.shared.SlotContents.{AreFlagsAmong, count_remaining, wanted_numbers}
 use Rattle.attr_search.specs.declared.answer_parts.MatchRef.{MatchRef}
 use Rattle.attr_search.proofs.SlotLemmas.{left_done, none_at, seen_filled}
@@ -61,21 +59,6 @@ is_done_left flags needed store slots left same among counted =
     (λ a w. ap is_some (narrowed_needed (is_needed needed) (slots_of (matches_by_ref store slots)) a (flag_needed needed a (among a w)))
     ∙ seen_filled store slots a)
 
-same_everywhere : {X : Type 0} (x : X) (n k : ℕ) → get_or (replicate n x) k x ≡ x
-same_everywhere x (suc n) (suc k) = same_everywhere x n k
-same_everywhere x n k = grind arith
-
--- slots that were appended are free, and not open
-pub open_grown : {X : Type 0} (needed : List Bool) (slots : List (Option X)) (is_open : List Bool) (n : ℕ) →
-    AreOpen needed slots is_open →
-    AreOpen (needed ++ replicate n false) (slots ++ replicate n None) (is_open ++ replicate n false)
-open_grown {X} needed slots is_open n sound =
-    grind (arith, length-append, length-replicate, get_or-append, get_or-append_right, same_everywhere, get_or_past, cases_lt)
-
--- numbers stay needed where more are appended
-pub needed_grown : (needed : List Bool) (numbers : List ℕ) (n : ℕ) → AllAreNeeded needed numbers → AllAreNeeded (needed ++ replicate n false) numbers
-needed_grown needed numbers n all = grind (arith, All-weaker, get_or-append, get_or-append_right, same_everywhere, get_or_past, cases_lt)
-
 -- the flags of the first slots, one by one
 pub record AreOpenUpTo {X : Type 0} (needed : List Bool) (slots : List (Option X)) (is_open : List Bool) (number : ℕ) : Type 0 where
   pub count : length is_open ≡ number
@@ -85,36 +68,15 @@ pub open_whole : {X : Type 0} (needed : List Bool) (slots : List (Option X)) (is
     length needed ≡ length slots → number ≡ length slots → AreOpenUpTo needed slots is_open number → AreOpen needed slots is_open
 open_whole needed slots is_open number same end all = grind (arith, get_or_past, cases_lt)
 
--- after all slots were emptied the flags are those that are needed, and of slots that were appended none is set
-pub flags_cut : {X : Type 0} (needed : List Bool) (slots grown : List (Option X)) (is_open opened emptied cut : List Bool) (numbers : List ℕ)
-    (count : ℕ) → length needed ≡ length slots → AreOpen needed slots is_open → AllAreNeeded needed numbers →
-    grown ≡ slots ++ replicate (count - length slots) None → opened ≡ is_open ++ replicate (count - length is_open) false →
-    ((flags : List Bool) → length flags ≡ length grown → AreOpen flags grown opened → AllAreNeeded flags numbers → emptied ≡ flags) →
-    cut ≡ take count emptied → cut ≡ take count (needed ++ replicate (count - length slots) false)
-flags_cut {X} needed slots grown is_open opened emptied cut numbers count same sound all grows opens empties is =
-    is ∙ ap (take count) (empties flags long own (needed_grown needed numbers n all))
-  where
-    n : ℕ
-    n = count - length slots
+-- flags of as many numbers as a count: the first of those that there were, and more that are not set
+pub length_resized : (flags resized : List Bool) (n count : ℕ) → n ≡ length flags → resized ≡ take count flags ++ replicate (count - n) false →
+    length resized ≡ count
+length_resized flags resized n count same is = grind (arith, length-take, length-append, length-replicate)
 
-    flags : List Bool
-    flags = needed ++ replicate n false
-
-    long : length flags ≡ length grown
-    long = grind (arith, length-append, length-replicate)
-
-    own : AreOpen flags grown opened
-    own =
-        rw (grows, opens ∙ ap (λ k. is_open ++ replicate (count - k) false) sound.0) (open_grown needed slots is_open n sound)
-
-pub length_cut : (needed : List Bool) (slots : ℕ) (cut : List Bool) (count : ℕ) → length needed ≡ slots →
-    cut ≡ take count (needed ++ replicate (count - slots) false) → length cut ≡ count
-length_cut needed slots cut count same is = grind (arith, length-take, count, length-append, length-replicate)
-
-pub flag_cut : (needed : List Bool) (n : ℕ) (cut : List Bool) (count number : ℕ) → cut ≡ take count (needed ++ replicate n false) →
-    number < count → get_or cut number false ≡ get_or needed number false
-flag_cut needed n cut count number is lt =
-    grind (arith, get_or-take, count, get_or-append, get_or-append_right, same_everywhere, get_or_past, cases_lt)
+pub flag_resized : (flags resized : List Bool) (n count number : ℕ) → n ≡ length flags →
+    resized ≡ take count flags ++ replicate (count - n) false → number < count → number < length flags →
+    get_or resized number false ≡ get_or flags number false
+flag_resized flags resized n count number same is lt within = grind (arith, get_or-take, length-take, get_or_append_left)
 
 -- any flags are among as many that are all set
 pub all_among : (flags : List Bool) (n : ℕ) → length flags ≡ n → AreFlagsAmong flags (replicate n true)

@@ -1,29 +1,24 @@
 -- What is left to fill, and slots over what is stored.
 use Rattle.std.proofs.Common.{◌≡◌, ℕ, suc, ◌+◌, ◌-◌, ◌<◌, ◌≤◌, Bool, true, false, ◌&&◌, ◌||◌, cond, nat_eq, List, [], ◌∷◌, ◌++◌, length}
 use Rattle.std.proofs.Common.{get_or, set, take, map, Option, Some, None, is_some, option_map, MatchOption, refl, sym, ap, ◌∙◌, arith, Result}
-use Rattle.std.proofs.Common.{zero-add, length-take, slice_get, drop, replicate, length-append}
+use Rattle.std.proofs.Common.{zero-add, length-take, drop, replicate, length-append}
 use Rattle.std.specs.Bool.{⊤}
 use Rattle.std.specs.List.{list_all, list_any}
-use Rattle.std.proofs.Math.Seq.{get_or-append_seam}
 use Rattle.std.specs.Result.{OnErr, OnOk}
 use mir.Val.{bool_byte}
-use Rattle.std.proofs.lemmas.List.{drop_all, drop_more, get_or-set_other, get_or-set_same, get_or-take, length-map, length-replicate, length-set}
-use Rattle.std.proofs.lemmas.List.{ext_get_or, get_or_default, take_more, map-set}
+use Rattle.std.proofs.lemmas.List.{drop_all, drop_more, get_or-replicate, get_or-set_other}
+use Rattle.std.proofs.lemmas.List.{get_or-set_same, get_or-take, length-map, length-replicate, length-set}
+use Rattle.std.proofs.lemmas.List.{get_or_append_left, get_or-append_right}
+use Rattle.std.proofs.lemmas.Bool.{cases_lt}
+use Rattle.std.proofs.lemmas.List.{ext_get_or, take_more, map-set}
 use Rattle.std.proofs.lemmas.List.Elements.{All-set, All-weaker, All-head, All-tail, All-same, All-map, All-nil, All-push}
 use Rattle.std.proofs.lemmas.List.Folds.{list_all-map, list_any-append}
 use mathlib.Core.List.{map-map}
-use Rattle.attr_table.specs.Setting.{Origin}
 use Rattle.attr_search.specs.shared.SlotContents.{AreListed, count_remaining, remaining_at, wanted_numbers}
-use Rattle.attr_search.specs.inner.AnswerRefs.{HasItem, KeepsAnswer, RefersTo, IsMatchRef, AreMatchRefs, kept_item, line_by_ref}
-use Rattle.attr_search.specs.inner.AnswerRefs.{match_by_ref, matches_by_ref}
-use Rattle.attr_search.specs.Slots.{Matched, filled_in, slots_of}
-use Rattle.attr_search.specs.inner.PartsContents.{PartsContent, KeepsOneMore, KeepsParts}
-use Rattle.attr_lists.specs.declared.types.TrackedAssignment.{TrackedAssignment}
-use Rattle.attr_search.specs.declared.matching_line.MatchingLine.{MatchingLine}
-use Rattle.attr_search.specs.declared.item_index.ItemIndex.{ItemIndex}
-use Rattle.attr_search.specs.inner.Pending.{items_beside, line_origin, no_item, indexed_item}
+use Rattle.attr_search.specs.inner.AnswerRefs.{IsMatchRef, AreMatchRefs, match_by_ref, matches_by_ref}
+use Rattle.attr_search.specs.Slots.{Matched, slots_of}
+use Rattle.attr_search.specs.inner.PartsContents.{PartsContent, KeepsParts}
 use Rattle.attr_search.specs.declared.answer_parts.MatchRef.{MatchRef}
-use Rattle.std.proofs.lemmas.Option.{get_or_from_slice_get, slice_get_within}
 use Rattle.attr_search.proofs.PartLemmas.{grows_at, grows_length}
 
 -- a fact that holds anyway holds on a value, and on an error
@@ -156,11 +151,6 @@ pub fill_counts : {X : Type 0} (flags : List Bool) (slots : List (Option X)) (i 
     (left - taken ≡ count_remaining flags (set slots i (Some x)))
 fill_counts flags slots i x w left taken same lt free counted read byte = grind (arith, count_left_set flags slots i x same lt free)
 
--- the line that was kept last is seen as it is
-pub line_seen : (store : PartsContent) (origin : Origin) (l : Option ℕ) → MatchOption l ⊤ (λ s. RefersTo store s origin) →
-    MatchOption (option_map (line_by_ref store) l) ⊤ (λ o. o ≡ origin)
-line_seen store origin l h = grind (arith, get_or_from_slice_get)
-
 pub left_seen : (flags : List Bool) (store : PartsContent) (slots : List (Option MatchRef)) → count_remaining flags slots ≡ count_remaining flags
     (matches_by_ref store slots)
 left_seen (w ∷ flags) store (slot ∷ slots) = grind (arith, left_seen flags store slots)
@@ -200,43 +190,27 @@ pub listed_filled : {X : Type 0} (slots : List (Option X)) (numbers : List ℕ) 
     AreListed slots (numbers ++ number ∷ []) → AreListed (set slots number o) (numbers ++ number ∷ [])
 listed_filled slots numbers number o listed = grind (arith, All-weaker, length-set, get_or-set_other, list_any-append)
 
--- slots that were emptied and cut are as many as flags
-pub empty_cut : (old grown emptied cut : List (Option MatchRef)) (count : ℕ) (flags : List Bool) → count ≡ length flags →
-    grown ≡ old ++ replicate (count - length old) None → emptied ≡ map (λ slot. None) grown → cut ≡ take count emptied →
-    cut ≡ map (λ flag. None) flags
-empty_cut old grown emptied cut count flags counted grows empty is =
-    let many : length emptied ≡ length old + (count - length old) = ap length empty ∙ length-map grown (λ slot. None) ∙ ap length grows
-    ∙ length-append old (replicate (count - length old) None) ∙ ap (λ n. length old + n) (length-replicate (count - length old) None) in
-    let same : length cut ≡ length flags = omega (arith, ap length is, length-take count emptied) in grind (arith, all_empty, get_or-take, none_at)
-
--- how many slots are filled
-pub filled_set : {X : Type 0} (slots : List (Option X)) (i : ℕ) (x : X) → i < length slots → is_some (get_or slots i None) ≡ false →
-    length (filled_in (set slots i (Some x))) ≡ length (filled_in slots) + 1
-filled_set (t ∷ slots) (suc i) x lt free = grind (arith, filled_set slots i x)
-filled_set slots i x lt free = grind arith
-
-pub filled_seen : (store : PartsContent) (slots : List (Option MatchRef)) → length (filled_in (matches_by_ref store slots)) ≡ length (filled_in slots)
-filled_seen store (t ∷ slots) = grind (arith, filled_seen store slots)
-filled_seen store [] = refl
-
--- an answer is kept whose line and item are
-pub answer_kept : (line : MatchingLine) (at : ItemIndex) (before after : PartsContent) (l i : ℕ) →
-    KeepsParts before after → KeepsOneMore before after → after.line ≡ Some l →
-    slice_get after.lines l ≡ Some (line_origin line) → HasItem after at.cause i →
-    kept_item after at.cause i ≡ indexed_item line.items.now before.bodies at →
-    KeepsAnswer line at before after (record { line = l; cause = at.cause; item = i })
-answer_kept line at before after l i extends more handed found has same = grind (arith, get_or_from_slice_get, slice_get_within)
-
--- an item of a body is there
-pub body_has : (items : List TrackedAssignment) (after : PartsContent) (cause : Option ℕ) (index : ℕ) → is_some cause ≡ true →
-    index < length (items_beside items after.bodies cause) → HasItem after cause index ×
-    (kept_item after cause index ≡ get_or (items_beside items after.bodies cause) index no_item)
-body_has items after cause index some inside = grind arith
-
--- and an item of the line that was kept
-pub own_has : (items : List TrackedAssignment) (bodies : List (List TrackedAssignment)) (after : PartsContent) (cause : Option ℕ) (index : ℕ)
-    (item own : TrackedAssignment) (before : List TrackedAssignment) → is_some cause ≡ false →
-    index < length (items_beside items bodies cause) → item ≡ get_or items index item → own ≡ item →
-    after.items ≡ before ++ own ∷ [] → HasItem after cause (length before) ×
-    (kept_item after cause (length before) ≡ get_or (items_beside items bodies cause) index no_item)
-own_has items bodies after cause index item own before none inside is same pushed = grind (arith, length-append, get_or-append_seam, get_or_default)
+-- slots that were emptied are as many as flags when they are resized
+pub empty_resized : {X Y : Type 0} (old : List Y) (emptied resized : List (Option X)) (n count : ℕ) (flags : List Bool) →
+    count ≡ length flags → n ≡ length emptied → emptied ≡ map (λ slot. None) old →
+    resized ≡ take count emptied ++ replicate (count - n) None → resized ≡ map (λ flag. None) flags
+empty_resized {X} old emptied resized n count flags counted same empty is =
+    let front = take count emptied in
+    let more : List (Option X) = replicate (count - n) None in
+    let many : length resized ≡ length flags = omega (
+      arith,
+      ap length is,
+      length-append front more,
+      length-take count emptied,
+      length-replicate {A = Option X} (count - n) None,
+    ) in
+    all_empty resized flags many (λ k lt. grind (
+      arith,
+      get_or_append_left,
+      get_or-append_right,
+      get_or-take,
+      none_at,
+      get_or-replicate,
+      length-take,
+      cases_lt,
+    ))

@@ -4,8 +4,8 @@ use Rattle.attr_lists.specs.declared.types.TrackedAssignment.{TrackedAssignment}
 use Rattle.attr_table.specs.Setting.{Origin}
 use Rattle.attr_search.specs.Slots.{Matched}
 
--- the answers by number, which numbers are wanted and which are needed, the line at hand if it has answered, what each number is as a
--- macro, how many lines and assignments are kept for the answers, and how many items the last search took and how many lines it tested
+-- the answers by number, which numbers are wanted and which are needed, the line that answered last, what each number is as a macro,
+-- how many lines and assignments are kept for the answers, and how many items the last search took and how many lines it tested
 pub record SearchContents : Type 0 where
   pub answers : List (Option Matched)
   pub wanted : List Bool

@@ -1,6 +1,5 @@
 -- The answer of an outcome for each attribute, and how it is seen as a slot of the table in attr_table (own).
 use Rattle.std.specs.Prelude.{◌≡◌, ℕ, ◌≤◌, ◌<◌, Bool, true, false, List, map, Option, None, is_some, option_map, slice_index_or}
-use Rattle.std.specs.List.{filter_map}
 use Rattle.attr_text.specs.declared.assignment.Assignment.{Assignment}
 use Rattle.attr_text.specs.declared.state.State.{State}
 use Rattle.attr_text.specs.declared.state.State.TheVariants.{Set, Unset, Value, Unspecified}
@@ -61,7 +60,3 @@ pub record IsNextFilled {X : Type 0} (slots : List (Option X)) (from number : �
   pub reached : from ≤ number
   pub filled : is_some (slice_index_or slots number None) ≡ true
   pub free : (other : ℕ) → from ≤ other → other < number → slice_index_or slots other None ≡ None
-
--- the answers in slots, in their order
-abbrev pub filled_in : {X : Type 0} → List (Option X) → List X
-filled_in slots = filter_map (λ slot. slot) slots

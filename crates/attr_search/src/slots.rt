@@ -7,18 +7,20 @@ ghost use Rattle.attr_search.specs.Matches.{match_view};
 ghost use Rattle.attr_search.specs.Settings.{HaveSlots};
 ghost use Rattle.std.specs.List.Sorted.{IsNonDecreasing};
 ghost use Rattle.std.specs.Option.{option_copied};
-ghost use Rattle.attr_search.specs.Slots.{AreFreeFrom, IsNextFilled, filled_in, slots_of};
+ghost use Rattle.std.specs.Vec.{vec_capacity};
+ghost use Rattle.attr_search.specs.Slots.{AreFreeFrom, IsNextFilled, slots_of};
 ghost use Rattle.attr_search.specs.shared.BodyChanges.{changed_bodies, sized_bodies};
 ghost use Rattle.attr_search.specs.inner.Searched.{state_wanted};
 ghost use Rattle.attr_search.specs.shared.Slotted.{BodiesHaveSlots, bodies_view};
 ghost use Rattle.attr_search.specs.shared.SlotContents.{AreFlagsAmong, AreListed, count_remaining, empty_slots, open_slots};
 ghost use Rattle.attr_search.specs.inner.Pending.{AreFilled, IsLastFree};
-ghost use Rattle.attr_search.specs.inner.SlotsView.{AllAreNeeded, AreOpen, GrowsTo};
+ghost use Rattle.attr_search.specs.inner.SlotsView.{AllAreNeeded, AreOpen};
 
 mod filling;
 
-use crate::answer_parts::{AnswerParts, MatchRef};
-use crate::bodies::BodyChange;
+use crate::answer_parts::{MatchRef, copy_of_items, copy_of_lines};
+use crate::bodies::{self, BodyChange, copy_of_bodies};
+use crate::matching_line::AnsweringLine;
 use crate::wanted::WantedFlags;
 use attr_lists::types::{Match, Metadata, TrackedAssignment};
 use attr_text::Assignment;
@@ -43,8 +45,12 @@ pub struct AnswerSlots {
     is_wanted: Vec<bool>,
     // How many wanted slots are free.
     remaining: usize,
-    // What the answers in slots refer to.
-    parts: AnswerParts,
+    // The lines that have answered, each kept once, whatever it answers.
+    lines: Vec<AnsweringLine>,
+    // The items of lines that have answered. Those of bodies are there already.
+    items: Vec<TrackedAssignment>,
+    // The definition of each attribute as a macro, by number.
+    bodies: Vec<Option<Rc<Metadata>>>,
     // How many slots were filled before the last search.
     filled_before: usize,
     // How many lines it tested. The count stops at `u128::MAX`.
@@ -77,7 +83,9 @@ impl AnswerSlots {
             is_open: Vec::new(alloc),
             is_wanted: Vec::new(alloc),
             remaining: 0,
-            parts: AnswerParts::new(alloc),
+            lines: Vec::new(alloc),
+            items: Vec::new(alloc),
+            bodies: Vec::new(alloc),
             filled_before: 0,
             tested: 0,
         }
@@ -104,27 +112,23 @@ impl AnswerSlots {
             (changed_bodies changes.items (sized_bodies (length wanted) self.old.bodies))) }
         ensures refused { OnErr result (self.new ≡ self.old) }
     {
-        let (before, count) = (self.slots.len(), wanted.len());
-        grow(
-            &mut self.slots,
-            &mut self.is_open,
-            &mut self.is_wanted,
-            count,
-        )?;
-        if self.parts.set_up(count, changes).is_err() {
-            self.slots.truncate(before);
-            self.is_open.truncate(before);
-            self.is_wanted.truncate(before);
-            return Err(AllocError);
-        }
+        let count = wanted.len();
+        make_room(&mut self.slots, count)?;
+        make_room(&mut self.is_open, count)?;
+        make_room(&mut self.is_wanted, count)?;
+        bodies::grow(&mut self.bodies, count)?;
+        self.bodies.truncate(count);
+        bodies::change(&mut self.bodies, changes);
         empty(&mut self.slots, &mut self.is_open, &self.filled);
         self.filled.clear();
+        keep_none(&mut self.lines, &mut self.items);
         self.filled_before = 0;
         self.tested = 0;
         self.is_ordered = true;
-        self.slots.truncate(count);
-        self.is_open.truncate(count);
-        self.is_wanted.truncate(count);
+        // There is room.
+        self.slots.resize(count, None).unwrap();
+        self.is_open.resize(count, false).unwrap();
+        self.is_wanted.resize(count, false).unwrap();
         needed.write(&mut self.is_open, &self.needed);
         wanted.write(&mut self.is_wanted, &self.wanted);
         self.remaining = wanted.count();
@@ -138,7 +142,7 @@ impl AnswerSlots {
         ensures bodies { bodies_view result.now ≡ self.now.bodies }
         ensures len { length result.now ≡ length self.now.answers }
     {
-        self.parts.bodies()
+        &self.bodies
     }
 
     /// How many wanted slots are free.
@@ -171,7 +175,9 @@ impl AnswerSlots {
         let is_wanted = wanted.to_vec(alloc)?;
         let slots = Vec::from_slice(alloc, &self.slots)?;
         let filled = Vec::from_slice(alloc, &self.filled)?;
-        let parts = self.parts.clone(alloc)?;
+        let lines = copy_of_lines(alloc, &self.lines)?;
+        let items = copy_of_items(alloc, &self.items)?;
+        let bodies = copy_of_bodies(alloc, &self.bodies)?;
         let remaining = count_remaining(&wanted, &slots);
         Ok(AnswerSlots {
             slots,
@@ -182,7 +188,9 @@ impl AnswerSlots {
             is_open,
             is_wanted,
             remaining,
-            parts,
+            lines,
+            items,
+            bodies,
             filled_before: self.filled_before,
             tested: self.tested,
         })
@@ -239,14 +247,6 @@ impl AnswerSlots {
         ensures { result ≡ is_done (state_wanted self.now) (open_slots self.now) }
     {
         self.remaining == 0
-    }
-
-    /// How many lines and items are kept for the answers: at most one of each for an answer.
-    pub fn kept(&self) -> usize
-        ensures kept { result ≡ self.now.kept }
-        ensures few { self.now.kept ≤ 2 * length (filled_in self.now.answers) }
-    {
-        self.parts.kept()
     }
 
     /// How many items the last search took, each of which filled a slot.
@@ -320,7 +320,7 @@ impl AnswerSlots {
             ≡ option_map (λ m. m.assignment) (slice_index_or self.now.answers number None) }
     {
         match self.slots.get(number) {
-            Some(Some(found)) => Some(self.parts.assigned(*found)),
+            Some(Some(found)) => Some(&found.item(&self.items, &self.bodies).inner),
             _ => None,
         }
     }
@@ -341,7 +341,7 @@ impl AnswerSlots {
         self.tested = 0;
         self.is_ordered = true;
         self.remaining = self.wanted.count();
-        self.parts.keep_none();
+        keep_none(&mut self.lines, &mut self.items);
     }
 
     /// The answer for the attribute with this number. None if its slot is free, or if there is no such slot.
@@ -350,7 +350,7 @@ impl AnswerSlots {
         ensures { option_map match_view result ≡ slice_index_or self.now.answers attribute None }
     {
         match self.slots.get(attribute) {
-            Some(Some(found)) => Some(self.parts.get(*found)),
+            Some(Some(found)) => Some(found.as_match(&self.lines, &self.items, &self.bodies)),
             _ => None,
         }
     }
@@ -404,49 +404,12 @@ fn next_slot(slots: &[Option<MatchRef>], from: usize) -> Option<usize>
     None
 }
 
-// Appends empty slots that are neither open nor wanted, until there are as many as the count if there were fewer.
-fn grow(
-    slots: &mut Vec<Option<MatchRef>>,
-    is_open: &mut Vec<bool>,
-    is_wanted: &mut Vec<bool>,
-    count: usize,
-) -> Result<(), AllocError>
-    requires open_flags { length is_open.old.items ≡ length slots.old.items }
-    requires wanted_flags { length is_wanted.old.items ≡ length slots.old.items }
-    ensures slots { GrowsTo result count None slots.old.items slots.new.items }
-    ensures opened { GrowsTo result count false is_open.old.items is_open.new.items }
-    ensures wanted { GrowsTo result count false is_wanted.old.items is_wanted.new.items }
+// Makes room for so many elements in all.
+fn make_room<T>(elements: &mut Vec<T>, count: usize) -> Result<(), AllocError>
+    ensures items { elements.new.items ≡ elements.old.items }
+    ensures room { OnOk result (count ≤ vec_capacity elements.new) }
 {
-    let before = slots.len();
-    if before >= count {
-        return Ok(());
-    }
-    slots.resize(count, None)?;
-    if grow_flags(is_open, is_wanted, count).is_err() {
-        slots.truncate(before);
-        return Err(AllocError);
-    }
-    Ok(())
-}
-
-// Appends flags that are not set to both, up to a count.
-fn grow_flags(
-    is_open: &mut Vec<bool>,
-    is_wanted: &mut Vec<bool>,
-    count: usize,
-) -> Result<(), AllocError>
-    requires few { length is_open.old.items ≤ count }
-    requires same { length is_wanted.old.items ≡ length is_open.old.items }
-    ensures opened { GrowsTo result count false is_open.old.items is_open.new.items }
-    ensures wanted { GrowsTo result count false is_wanted.old.items is_wanted.new.items }
-{
-    let before = is_open.len();
-    is_open.resize(count, false)?;
-    if is_wanted.resize(count, false).is_err() {
-        is_open.truncate(before);
-        return Err(AllocError);
-    }
-    Ok(())
+    elements.reserve(count.saturating_sub(elements.len()))
 }
 
 // Empties the slots with these numbers, if the others have no answer. All that are needed are open then.
@@ -458,11 +421,22 @@ fn empty(slots: &mut Vec<Option<MatchRef>>, is_open: &mut Vec<bool>, numbers: &[
     ensures opened { (needed : List Bool) → length needed ≡ length slots.old.items →
         AreOpen needed slots.old.items is_open.old.items → AllAreNeeded needed numbers.now →
         is_open.new.items ≡ needed }
+    ensures slots_room { vec_capacity slots.new ≡ vec_capacity slots.old }
+    ensures flags_room { vec_capacity is_open.new ≡ vec_capacity is_open.old }
 {
     for number in numbers {
         slots[*number] = None;
         is_open[*number] = true;
     }
+}
+
+// Forgets lines and items: no answer refers to them any more.
+fn keep_none(lines: &mut Vec<AnsweringLine>, items: &mut Vec<TrackedAssignment>)
+    ensures lines { lines.new.items ≡ [] }
+    ensures items { items.new.items ≡ [] }
+{
+    lines.clear();
+    items.clear();
 }
 
 // For each slot whether it is needed and has no answer.

@@ -1,5 +1,5 @@
 -- What contracts of functions name that fill slots by the items of a line (own). Nothing here has to be believed.
-use Rattle.std.specs.Prelude.{◌≡◌, ℕ, ◌+◌, ◌*◌, ◌<◌, Some, is_some, false, List, ◌++◌, length, set, sum_by, All, MatchOption, ⊤}
+use Rattle.std.specs.Prelude.{◌≡◌, ℕ, ◌+◌, ◌*◌, ◌<◌, Some, is_some, false, List, ◌++◌, length, set, sum_by, All}
 use Rattle.attr_lists.specs.declared.types.TrackedAssignment.{TrackedAssignment}
 use Rattle.attr_table.specs.Table.{Slots}
 use Rattle.attr_table.specs.shared.Walk.{Task, Searches, left_in}
@@ -13,13 +13,13 @@ use Rattle.attr_search.specs.inner.Searched.{KeepsNamedFor, state_bodies, state_
 use Rattle.attr_search.specs.inner.SlotsView.{BodiesFit}
 use Rattle.attr_search.specs.shared.SlotContents.{open_slots}
 
--- a line fills slots: the indexes at hand and on the stack are among its items, or in bodies, and what was stored last is this line
+-- a line fills slots: the indexes at hand and on the stack are among its items, or in bodies, and the line that was kept last is this one
 pub record AtLine (line : MatchingLine) (state : SearchContents) (at : ItemIndex) (stack : List ItemIndex) : Type 0 where
   pub bodies : BodiesFit (length state.answers) state.bodies
   pub in_line : HaveSlots (length state.answers) line.items.now
   pub within : HasItemsBefore line.items.now state.bodies at
   pub inside : All (HasItemsBefore line.items.now state.bodies) stack
-  pub origin : MatchOption state.line ⊤ (λ o. o ≡ line_origin line)
+  pub origin : state.line ≡ Some (line_origin line)
 
 -- some items filled slots: answers have the names of their numbers, if the items and the answers before have them, and no line was tested
 pub record FillsBy (items : List TrackedAssignment) (before after : SearchContents) : Type 0 where
@@ -47,8 +47,7 @@ pub record FillsItem (line : MatchingLine) (at : ItemIndex) (before after : Sear
   pub free : is_some (open_slots before (own_item line at before).id.0) ≡ false
   pub filled : after ≡ record before {
     answers = set before.answers (own_item line at before).id.0
-        (Some (item_answer line before.bodies (own_item line at before) at.cause));
-    line = after.line;
+        (Some (item_answer (line_origin line) before.bodies (own_item line at before) at.cause));
     kept = after.kept;
     taken = before.taken + 1;
   }

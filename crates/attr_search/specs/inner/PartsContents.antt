@@ -1,12 +1,11 @@
 -- What an outcome keeps for its answers: lines and items, by index, and the bodies of macros (own).
-use Rattle.std.specs.Prelude.{◌≡◌, ◌≤◌, ◌+◌, ℕ, List, ◌++◌, length, Option}
+use Rattle.std.specs.Prelude.{◌≡◌, List, ◌++◌}
 use Rattle.attr_lists.specs.declared.types.TrackedAssignment.{TrackedAssignment}
 use Rattle.attr_table.specs.Setting.{Origin}
 
--- where the lines are that have answered, the index of the line at hand if it has, the items of lines, and the bodies by number
+-- where the lines are that have answered, their items that are kept, and the bodies by number
 pub record PartsContent : Type 0 where
   pub lines : List Origin
-  pub line : Option ℕ
   pub items : List TrackedAssignment
   pub bodies : List (List TrackedAssignment)
 
@@ -19,8 +18,3 @@ pub record KeepsParts (old new : PartsContent) : Type 0 where
   pub lines : Grows old.lines new.lines
   pub items : Grows old.items new.items
   pub bodies : new.bodies ≡ old.bodies
-
--- at most one line and one item more are kept
-pub record KeepsOneMore (old new : PartsContent) : Type 0 where
-  pub lines : length new.lines ≤ length old.lines + 1
-  pub items : length new.items ≤ length old.items + 1

@@ -16,10 +16,10 @@ abbrev pub line_origin : MatchingLine → Origin
 line_origin line = index_origin line.index.now.value line.line
 
 -- the answer by an item of a line, or of a cause's body: its attribute is a macro if it has a body
-abbrev pub item_answer : MatchingLine → List (List TrackedAssignment) → TrackedAssignment → Option ℕ → Matched
-item_answer line bodies item cause =
+abbrev pub item_answer : Origin → List (List TrackedAssignment) → TrackedAssignment → Option ℕ → Matched
+item_answer origin bodies item cause =
     record {
-      origin = line_origin line;
+      origin = origin;
       assignment = item.inner;
       is_macro = not (length (slice_index_or bodies item.id.0 []) == 0);
       cause = cause;

@@ -1,6 +1,6 @@
 //! Filling slots by the items of a line that matches, and by the bodies of the macros that they set.
 
-ghost use Rattle.std.specs.Prelude.{◌≡◌, ◌<◌, ⊤, false, is_some, length, MatchOption, None, OnErr, OnOk};
+ghost use Rattle.std.specs.Prelude.{◌≡◌, ◌<◌, ◌+◌, false, is_some, length, None, OnErr, OnOk, Some};
 ghost use Rattle.attr_table.specs.shared.Walk;
 ghost use Rattle.attr_table.specs.shared.Walk.{tasks_in};
 ghost use Rattle.attr_search.specs.Settings.{HaveSlots};
@@ -12,9 +12,10 @@ ghost use Rattle.attr_search.specs.inner.Pending.{IsInside, end_of_body, line_or
 ghost use Rattle.attr_search.specs.inner.Searched.{SearchesPart};
 ghost use Rattle.attr_search.specs.inner.SlotsView.{BodiesFit};
 
+use crate::answer_parts::{MatchRef, keep_item};
 use crate::bodies::body_of;
 use crate::item_index::ItemIndex;
-use crate::matching_line::MatchingLine;
+use crate::matching_line::{AnsweringLine, MatchingLine};
 use crate::slots::AnswerSlots;
 use attr_lists::types::Metadata;
 use attr_text::State;
@@ -40,7 +41,7 @@ impl AnswerSlots {
             (tasks_in (line_origin line.entry) None (table_items line.entry.items.now)))
             self.old self.new }
     {
-        self.begin_line();
+        self.begin_line(line)?;
         stack.clear();
         let mut at = ItemIndex {
             cause: None,
@@ -67,12 +68,17 @@ impl AnswerSlots {
         Ok(())
     }
 
-    // Begins another line: what is filled from now on comes from that line.
-    fn begin_line(&mut self)
-        ensures begun { self.new ≡ record self.old { line = None } }
-        ensures bodies { BodiesFit (length self.new.answers) self.new.bodies }
+    // Keeps a line, from which comes what is filled from now on.
+    fn begin_line(&mut self, line: MatchingLine<'_>) -> Result<(), AllocError>
+        ensures begun { OnOk result (self.new ≡ record self.old
+            { line = Some (line_origin line.entry); kept = self.old.kept + 1 }) }
+        ensures refused { OnErr result (self.new ≡ self.old) }
+        ensures bodies { OnOk result (BodiesFit (length self.new.answers) self.new.bodies) }
     {
-        self.parts.begin_line();
+        let index = line.index.clone()?;
+        let line = line.line;
+        self.lines.push(AnsweringLine { index, line })?;
+        Ok(())
     }
 
     // Fills the free slot of an attribute with an item of the line, or of a macro's body to which the line expands.
@@ -87,17 +93,21 @@ impl AnswerSlots {
         requires own { attribute ≡ (own_item line item self.old).id.0 }
         requires within { attribute < length self.old.answers }
         requires free { is_some (open_slots self.old attribute) ≡ false }
-        requires line { MatchOption self.old.line ⊤ (λ o. o ≡ line_origin line) }
+        requires line { self.old.line ≡ Some (line_origin line) }
         ensures filled { OnOk result (FillsItem line.entry item self.old self.new) }
         ensures refused { OnErr result (self.new ≡ self.old) }
-        ensures line { MatchOption self.new.line ⊤ (λ o. o ≡ line_origin line.entry) }
     {
         self.filled.reserve(1)?;
-        let found = self.parts.keep(alloc, line, item)?;
+        let index = keep_item(alloc, &mut self.items, line.items, item)?;
+        let line = self.lines.len() - 1;
+        let at = ItemIndex {
+            cause: item.cause,
+            index,
+        };
         self.is_ordered = false;
         self.filled.push_reserved(attribute);
         self.remaining -= usize::from(self.is_wanted[attribute]);
-        self.slots[attribute] = Some(found);
+        self.slots[attribute] = Some(MatchRef { line, at });
         self.is_open[attribute] = false;
         Ok(())
     }

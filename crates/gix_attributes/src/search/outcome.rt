@@ -234,7 +234,8 @@ impl Outcome {
         }
     }
 
-    /// Empties the slots, for searches of another path. It takes no memory, and costs what was filled.
+    /// Empties the slots, for searches of another path. It takes no memory, and costs what was filled. Nothing is kept for answers then;
+    /// until then an answer keeps the index of its list, also if the list was removed.
     pub fn reset(&mut self)
         ensures { self.new ≡ reset_content self.old }
     {
@@ -330,15 +331,6 @@ impl Outcome {
             return false;
         }
         selection::are_bodies_of(self.state.slots.bodies(), collection)
-    }
-
-    /// How many lines and items are kept for the answers (own): at most one of each for an answer, so none after
-    /// [`Outcome::reset`]. A line keeps the index of its list, which a removed list's answers outlive.
-    pub fn kept(&self) -> usize
-        ensures kept { result ≡ self.now.kept }
-        ensures few { self.now.kept ≤ 2 * length (found_in self.now.slots) }
-    {
-        self.state.slots.kept()
     }
 
     /// How many items the last search took, each of which filled a slot. Items whose attributes had answers are passed over.

@@ -17,7 +17,7 @@ returns-in_default-pop c =
     let is = c.items-items.ensures ∙ ap (λ bodies. items_beside line.items.now bodies c.loop-alloc.at.cause) c.bodies.ensures.bodies in
     let x = c.in_default-pop.ensures.cases in
     let ends = ends_line line now c.loop-alloc.at c.loop-alloc.stack.items (rw is at c.in_default.ensures) (omega arith) in
-    let done = line_done line c.args.self.now c.begin_line.new.self now c.clear.new.self.items c.begin_line.ensures.begun c.clear.ensures.items
+    let done = line_done line c.args.self.now c.begin_line.new.self now c.clear.new.self.items c.in_ok-begin_line.ensures.begun c.clear.ensures.items
     c.loop-alloc.invariant.kept c.loop-alloc.invariant.by (c.loop-alloc.invariant.filled (open_slots now) now.taken ends) in
     record { kept = done.0; done = done.1 }
 
@@ -44,7 +44,7 @@ returns c =
     let ends = done_taken (state_bodies now) (state_wanted now) (tasks_left line now c.loop-alloc.at c.loop-alloc.stack.items)
     (open_slots now) now.taken
     (sym c.loop-alloc-test.ensures) in
-    let done = line_done line c.args.self.now c.begin_line.new.self now c.clear.new.self.items c.begin_line.ensures.begun c.clear.ensures.items
+    let done = line_done line c.args.self.now c.begin_line.new.self now c.clear.new.self.items c.in_ok-begin_line.ensures.begun c.clear.ensures.items
     c.loop-alloc.invariant.kept c.loop-alloc.invariant.by (c.loop-alloc.invariant.filled (open_slots now) now.taken ends) in
     record { kept = done.0; done = done.1 }
 
@@ -80,7 +80,7 @@ loop-alloc-preserved-in-Some-end_of_body c =
     let by = fills_by now after filled in
     rw c.in_ok-push.ensures.items (record {
       at_line = at_body after c.index-items-index.result.id.0 _
-          (at_item now after c.loop-alloc.invariant.at_line filled refl last.before c.in_ok-fill.ensures.line)
+          (at_item now after c.loop-alloc.invariant.at_line filled refl last.before)
           (grind (arith, own, kept.len, filled.within)) (rw c.bodies-in-loop-alloc.ensures.bodies at (sym c.in-Some-end_of_body.ensures));
       kept = then_kept c.begin_line.new.self now after c.loop-alloc.invariant.kept kept;
       by = then_by c.begin_line.new.self now after c.loop-alloc.invariant.kept c.loop-alloc.invariant.by by;
@@ -114,7 +114,7 @@ loop-alloc-preserved c =
     let known = c.bodies-in-loop-alloc.ensures.bodies ∙ kept.bodies in
     let by = fills_by now after filled in
     record {
-      at_line = at_item now after c.loop-alloc.invariant.at_line filled refl last.before c.in_ok-fill.ensures.line;
+      at_line = at_item now after c.loop-alloc.invariant.at_line filled refl last.before;
       kept = then_kept c.begin_line.new.self now after c.loop-alloc.invariant.kept kept;
       by = then_by c.begin_line.new.self now after c.loop-alloc.invariant.kept c.loop-alloc.invariant.by by;
       filled = λ final later p. c.loop-alloc.invariant.filled final later

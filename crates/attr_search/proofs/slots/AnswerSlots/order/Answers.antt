@@ -18,11 +18,8 @@ invariant_of-self c =
       filled_needed = All-permutation (λ n. slice_index_or b.needed n false ≡ true) b.filled.items sorted c.sort_unstable.ensures.permutation
           c.self.invariant.filled_needed;
       within = c.self.invariant.within;
-      line = c.self.invariant.line;
       counted = c.self.invariant.counted;
       listed = listed_permuted b.slots.items b.filled.items sorted c.sort_unstable.ensures.permutation c.self.invariant.listed;
       before = omega (arith, c.self.invariant.before, length_permutation b.filled.items sorted c.sort_unstable.ensures.permutation);
       ordered = λ t. IsNonDecreasingBy-from_sort (λ n. n) sorted c.sort_unstable.ensures.sorted;
-      few_lines = c.self.invariant.few_lines;
-      few_items = c.self.invariant.few_items;
     }

@@ -1,5 +1,6 @@
 use Rattle.attr_search.specs.declared.answer_parts.MatchRef.{MatchRef}
 use Rattle.std.proofs.Common.{ap, ◌≡◌, false, get_or, true, arith, ◌∙◌, sym}
+use Rattle.attr_search.specs.inner.PartsView.{parts_view}
 use Rattle.attr_search.specs.shared.SlotContents.{count_remaining}
 use Rattle.std.proofs.lemmas.List.Elements.{All-nil}
 use Rattle.attr_search.proofs.OpenLemmas.{open_all}
@@ -16,22 +17,20 @@ invariant_of-self c =
       same_length = same ∙ sym c.empty.ensures.len;
       needed_length = c.self.invariant.needed_length ∙ sym c.empty.ensures.len;
       among = c.self.invariant.among;
-      bodies = rw (c.empty.ensures.len, c.keep_none.ensures) c.self.invariant.bodies;
+      bodies = rw c.empty.ensures.len c.self.invariant.bodies;
       opened = open_all b.needed c.empty.new.is_open.items c.empty.new.slots.items b.slots.items
           (c.empty.ensures.opened b.needed c.self.invariant.needed_length c.self.invariant.opened
           (rw c.deref.ensures.value c.self.invariant.filled_needed))
           (c.self.invariant.needed_length ∙ sym c.empty.ensures.len) c.empty.ensures.items;
       flagged = c.self.invariant.flagged;
       filled_needed = rw c.clear.ensures.items (All-nil (λ n. get_or b.needed n false ≡ true));
-      within = empty_within c.keep_none.new.self c.empty.new.slots.items b.slots.items c.empty.ensures.items;
-      line = rw c.keep_none.ensures tt;
+      within = empty_within (parts_view c.keep_none.new.lines.items c.keep_none.new.items.items b.bodies.items) c.empty.new.slots.items
+          b.slots.items c.empty.ensures.items;
       counted = c.count-self-inside.ensures ∙ sym (count_empty MatchRef b.wanted b.slots.items same)
           ∙ ap (count_remaining b.wanted) (sym c.empty.ensures.items);
       listed = rw c.clear.ensures.items (empty_listed c.empty.new.slots.items b.slots.items c.empty.ensures.items);
       before = omega arith;
       ordered = λ t. rising_nothing c.clear.new.self.items c.clear.ensures.items;
-      few_lines = rw c.keep_none.ensures (omega arith);
-      few_items = rw c.keep_none.ensures (omega arith);
     }
 
 pub returns : goal.returns

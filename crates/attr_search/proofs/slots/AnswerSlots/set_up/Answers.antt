@@ -8,10 +8,11 @@ use Rattle.attr_lists.specs.declared.types.TrackedAssignment.{TrackedAssignment}
 use Rattle.attr_search.specs.declared.bodies.BodyChange.{BodyChange}
 use Rattle.attr_search.specs.inner.SlotsView.{BodiesFit}
 use Rattle.attr_search.specs.shared.BodyChanges.{changed_bodies, sized_bodies}
-use Rattle.attr_search.specs.shared.Slotted.{BodiesHaveSlots}
-use Rattle.attr_search.proofs.BodyLemmas.{length_changed, length_sized, told_ok}
-use Rattle.attr_search.proofs.OpenLemmas.{flag_cut, flags_cut, length_cut, open_all}
-use Rattle.attr_search.proofs.SlotLemmas.{empty_cut, empty_listed, empty_seen, empty_within}
+use Rattle.std.specs.Vec.{vec_len}
+use Rattle.attr_search.specs.shared.Slotted.{BodiesHaveSlots, bodies_view}
+use Rattle.attr_search.proofs.BodyLemmas.{cut_sized, length_changed, length_grown, length_sized}
+use Rattle.attr_search.proofs.OpenLemmas.{flag_resized, open_all}
+use Rattle.attr_search.proofs.SlotLemmas.{empty_listed, empty_resized, empty_seen, empty_within}
 use Rattle.attr_search.proofs.ListedLemmas.{rising_nothing}
 use Rattle.attr_search.proofs.WantedLemmas.{count_empty}
 use Rattle.attr_search.proofs.slots.AnswerSlots.set_up.Goals as goal
@@ -26,56 +27,57 @@ fitting bodies slots wanted changes old is cut within = record {
   in_bodies = rw (is, cut, length-map {B = Option MatchRef} wanted (λ flag. None)) within;
 }
 
-pub write-requires-clause-len : goal.write-requires-clause-len
-write-requires-clause-len c =
-    let b = c.self.inside in
-    let cut = flags_cut b.needed b.slots.items c.grow.new.slots.items b.is_open.items c.grow.new.is_open.items c.empty.new.is_open.items
-    c.truncate-3.new.self.items b.filled.items c.len-count.result c.self.invariant.needed_length c.self.invariant.opened
-    c.self.invariant.filled_needed c.in_ok-grow.ensures.slots.grown c.in_ok-grow.ensures.opened.grown
-    (rw c.deref.ensures.value at c.empty.ensures.opened) c.truncate-3.ensures.items in
-    grind (arith, length_cut)
+pub change-requires : goal.change-requires
+change-requires c = λ k d lt.
+    rw (length_grown c.self.inside.bodies.items c.grow.new.bodies.items c.truncate.new.self.items c.len-count.result c.in_ok-grow.ensures.ok
+    c.truncate.ensures.items ∙ c.len-count.ensures) (c.requires.numbers k d lt)
 
 pub write-requires-clause-before : goal.write-requires-clause-before
 write-requires-clause-before c = λ number lt within.
     let b = c.self.inside in
-    let cut = flags_cut b.needed b.slots.items c.grow.new.slots.items b.is_open.items c.grow.new.is_open.items c.empty.new.is_open.items
-    c.truncate-3.new.self.items b.filled.items c.len-count.result c.self.invariant.needed_length c.self.invariant.opened
-    c.self.invariant.filled_needed c.in_ok-grow.ensures.slots.grown c.in_ok-grow.ensures.opened.grown
-    (rw c.deref.ensures.value at c.empty.ensures.opened) c.truncate-3.ensures.items in
-    grind (arith, flag_cut)
+    let opened = c.empty.ensures.opened b.needed (rw c.make_room.ensures.items c.self.invariant.needed_length)
+    (rw (c.make_room.ensures.items, c.make_room-2.ensures.items) c.self.invariant.opened) (rw c.deref.ensures.value c.self.invariant.filled_needed) in
+    let same : vec_len c.empty.new.is_open ≡ length b.needed = omega (arith, ap length opened) in
+    flag_resized b.needed c.resize-2.new.self.items (vec_len c.empty.new.is_open) c.len-count.result number same
+    (rw (← opened) (rw c.unwrap-2.ensures at c.resize-2.ensures.items)) (omega (arith, lt, c.requires.needed, c.len-count.ensures)) within
 
 pub invariant_of-self-2 : goal.invariant_of-self-2
 invariant_of-self-2 c =
-    let slots = c.truncate-2.new.self.items in
+    let b = c.self.inside in
     let wanted = c.args.wanted in
-    let made = told_ok c.set_up.result c.is_err.result c.is_err.ensures.value c.if-is_err.false c.set_up.ensures.ok in
-    let cut = empty_cut c.self.inside.slots.items c.grow.new.slots.items c.empty.new.slots.items slots c.len-count.result wanted c.len-count.ensures
-    c.in_ok-grow.ensures.slots.grown c.empty.ensures.items c.truncate-2.ensures.items in
+    let slots = c.resize.new.self.items in
+    let cut = empty_resized c.make_room.new.elements.items c.empty.new.slots.items slots
+    (vec_len c.empty.new.slots) c.len-count.result wanted c.len-count.ensures
+    (omega arith) c.empty.ensures.items (rw c.unwrap.ensures at c.resize.ensures.items) in
+    let many : length slots ≡ length wanted = ap length cut ∙ length-map wanted (λ flag. None) in
+    let bodies = cut_sized b.bodies.items c.grow.new.bodies.items c.truncate.new.self.items _ c.len-count.result
+    (length wanted) c.len-count.ensures refl
+    c.in_ok-grow.ensures.ok c.truncate.ensures.items in
     record {
-      same_length = sym (ap length cut ∙ length-map wanted (λ flag. None));
-      needed_length = c.requires.needed ∙ sym (ap length cut ∙ length-map wanted (λ flag. None));
+      same_length = sym many;
+      needed_length = c.requires.needed ∙ sym many;
       among = c.requires.among;
-      bodies = fitting c.set_up.new.self.bodies slots wanted c.args.changes.items c.self.inside.parts.bodies
-          (rw c.len-count.ensures at (ap (λ parts. parts.bodies) made)) cut
-          (rw (← c.self.view_is) at c.requires.within);
-      opened = open_all c.args.needed c.write.new.flags.items slots wanted c.write.ensures
-          (c.requires.needed ∙ sym (ap length cut ∙ length-map wanted (λ flag. None))) cut;
+      bodies = fitting (bodies_view c.change.new.bodies.items) slots wanted c.args.changes.items (bodies_view b.bodies.items)
+          (c.change.ensures ∙ ap (changed_bodies c.args.changes.items) bodies) cut (rw (← c.self.view_is) at c.requires.within);
+      opened = open_all c.args.needed c.write.new.flags.items slots wanted c.write.ensures (c.requires.needed ∙ sym many) cut;
       flagged = c.write-2.ensures;
       filled_needed = rw c.clear.ensures.items (All-nil (λ n. get_or c.args.needed n false ≡ true));
-      within = empty_within c.set_up.new.self slots wanted cut;
-      line = rw made tt;
+      within = empty_within _ slots wanted cut;
       counted = c.count-self-inside.ensures ∙ sym (count_empty MatchRef wanted wanted refl) ∙ ap (count_remaining wanted) (sym cut);
       listed = rw c.clear.ensures.items (empty_listed slots wanted cut);
       before = omega arith;
       ordered = λ t. rising_nothing c.clear.new.self.items c.clear.ensures.items;
-      few_lines = rw made (omega arith);
-      few_items = rw made (omega arith);
     }
 
 pub returns-clause-ok : goal.returns-clause-ok
 returns-clause-ok c =
-    let slots = c.truncate-2.new.self.items in
+    let b = c.self.inside in
     let wanted = c.args.wanted in
-    let cut = empty_cut c.self.inside.slots.items c.grow.new.slots.items c.empty.new.slots.items slots c.len-count.result wanted c.len-count.ensures
-    c.in_ok-grow.ensures.slots.grown c.empty.ensures.items c.truncate-2.ensures.items in
-    grind (arith, told_ok, empty_seen, c.is_err.ensures.value, c.if-is_err.false, c.set_up.ensures.ok, c.len-count.ensures)
+    let slots = c.resize.new.self.items in
+    let cut = empty_resized c.make_room.new.elements.items c.empty.new.slots.items slots
+    (vec_len c.empty.new.slots) c.len-count.result wanted c.len-count.ensures
+    (omega arith) c.empty.ensures.items (rw c.unwrap.ensures at c.resize.ensures.items) in
+    let bodies = cut_sized b.bodies.items c.grow.new.bodies.items c.truncate.new.self.items _ c.len-count.result
+    (length wanted) c.len-count.ensures refl
+    c.in_ok-grow.ensures.ok c.truncate.ensures.items in
+    grind (arith, empty_seen, cut, bodies)
