@@ -1,6 +1,7 @@
 -- Names that are appended before their list is registered, and lines that have the numbers of their names.
 use Rattle.std.proofs.Common.{◌≡◌, ℕ, ◌<◌, ◌≤◌, List, [], ◌∷◌, ◌++◌, length, get_or, map, take, All}
-use Rattle.std.proofs.Common.{Option, Some, None, IfSome, option_map, unwrap_or}
+use Rattle.std.proofs.Common.{Option, Some, None, IfSome, option_map, unwrap_or, Bool, false, Result, Ok, Err, is_err, IfOk}
+use Rattle.std.specs.Result.{OnErr, OnOk}
 use Rattle.std.proofs.Common.{append-nil, bytes_eq, refl, sym, ap, subst, ◌∙◌, ⊎_elim, arith}
 use Rattle.std.specs.List.{IsDistinct}
 use Rattle.std.proofs.lemmas.Bool.{cases_lt}
@@ -8,7 +9,7 @@ use Rattle.std.proofs.lemmas.List.{length-map, length-take, take-map, get_or-tak
 use Rattle.std.proofs.lemmas.List.Elements.{All-head, All-tail, All-weaker}
 use Rattle.std.proofs.lemmas.List.Sums.{fold-append}
 use Rattle.attr_lists.specs.declared.name_table.entry.NameEntry.{NameEntry}
-use Rattle.attr_lists.specs.declared.name_table.parts.Parts.{Parts}
+use Rattle.attr_lists.specs.declared.name_table.NameTable.TheInside.{Inside}
 use Rattle.attr_lists.specs.declared.types.AttributeId.{AttributeId}
 use Rattle.attr_lists.specs.declared.types.TrackedAssignment.{TrackedAssignment}
 use Rattle.attr_lists.specs.Collections.{Collection}
@@ -20,9 +21,9 @@ use Rattle.std.specs.BTreeSet.{contains}
 use Rattle.std.specs.Ordering.{nat_cmp}
 use Rattle.attr_lists.specs.Numbers.{id_of, macro_names, names_of, names_in, no_number, numbered, numbered_item, numbered_lines}
 use Rattle.attr_lists.specs.Numbers.{with_name, with_names}
-use Rattle.attr_lists.specs.Numbers.{AreNamed, IsNumberOf}
+use Rattle.attr_lists.specs.Numbers.{AppendsNames, AreNamed, IsNumberOf}
 use Rattle.attr_lists.specs.inner.EntryViews.{definitions_view, all_definitions, definitions_at, AreEntries, AreValid, IsEntry}
-use Rattle.attr_lists.specs.inner.NameTableView.{parts_view, AreWhole, IsPartlyRead}
+use Rattle.attr_lists.specs.inner.NameTableView.{name_table_view, IsNameTable, IsPartlyRead}
 use Rattle.attr_lists.specs.inner.Registered.{registered_views, AreAscending}
 use Rattle.attr_lists.specs.shared.Keeping.{IsNumbered, StayRegistered}
 use Rattle.attr_lists.proofs.NamedDefinitions.{number_where}
@@ -49,14 +50,14 @@ named_sound old texts sound valid =
     }
 
 -- parts with more names, each with an entry without definitions, are whole
-pub named_whole : (p q : Parts) (texts : List (List ℕ)) → AreWhole p → q.names ≡ with_names p.names texts → AreValid q.names
+pub named_whole : (p q : Inside) (texts : List (List ℕ)) → IsNameTable p → q.names ≡ with_names p.names texts → AreValid q.names
     → registered_views q.lists.items ≡ registered_views p.lists.items → length q.entries.items ≡ length q.names → AreEntries q.entries.items
-    → ((n : ℕ) → definitions_at q.entries.items n ≡ definitions_at p.entries.items n) → q.macros ≡ p.macros → AreWhole q
+    → ((n : ℕ) → definitions_at q.entries.items n ≡ definitions_at p.entries.items n) → q.macros ≡ p.macros → IsNameTable q
 named_whole p q texts whole names valid lists counted entries definitions macros =
-    let view : parts_view q ≡ record { names = with_names p.names texts; lists = registered_views p.lists.items } =
+    let view : name_table_view q ≡ record { names = with_names p.names texts; lists = registered_views p.lists.items } =
     λ j. record { names = names j; lists = lists j } in
     record {
-      sound = subst IsSoundCollection (sym view) (named_sound (parts_view p) texts whole.sound (subst AreValid names valid));
+      sound = subst IsSoundCollection (sym view) (named_sound (name_table_view p) texts whole.sound (subst AreValid names valid));
       counted = counted;
       entries = entries;
       defined = λ n. definitions n ∙ whole.defined n ∙ ap (λ ls. definitions_of (record { names = q.names; lists = ls }) n) (sym lists);
@@ -65,20 +66,50 @@ named_whole p q texts whole names valid lists counted entries definitions macros
           ∙ whole.macros n (ap (λ set. contains nat_cmp set n) (sym macros) ∙ none);
     }
 
+-- what holds of a value holds where there is no error
+pub no_error : {T E F : Type 0} (r : Result T E) (b : Bool) → b ≡ is_err r → b ≡ false → OnOk r F → F
+no_error (Ok x) b e is h = h
+no_error (Err x) b e is h = absurd cc
+
+-- what follows from what holds of each value
+pub on_value : {T E F : Type 0} {P : T → Type 0} (r : Result T E) → ((x : T) → P x → F) → IfOk r P → OnOk r F
+on_value (Ok x) f h = f x h
+on_value (Err e) f h = tt
+
+-- names are appended, whether memory runs out or not
+pub appended : {T E : Type 0} (r : Result T E) (old new texts : List (List ℕ)) → OnOk r (new ≡ with_names old texts)
+    → OnErr r (AppendsNames old new) → AppendsNames old new
+appended (Ok x) old new texts named part = let more = with_names-extends old texts in (more.0, named ∙ more.1)
+appended (Err e) old new texts named part = part
+
+pub partly_read : {T E : Type 0} (r : Result T E) (start mid : Inside) (texts : List (List ℕ)) → IsNameTable start
+    → OnOk r (mid.names ≡ with_names start.names texts) → OnErr r (AppendsNames start.names mid.names)
+    → length start.entries.items ≤ length mid.entries.items → (AreEntries start.entries.items → AreEntries mid.entries.items)
+    → ((n : ℕ) → definitions_at mid.entries.items n ≡ definitions_at start.entries.items n)
+    → mid.lists.items ≡ start.lists.items → mid.macros ≡ start.macros → IsPartlyRead start mid
+partly_read r start mid texts whole named part more entries definitions lists macros = record {
+  names = appended r start.names mid.names texts named part;
+  counted = more;
+  entries = entries whole.entries;
+  definitions = definitions;
+  lists = lists;
+  macros = macros;
+}
+
 pub entries_first : (count : ℕ) (entries : List NameEntry) → AreEntries entries → AreEntries (take count entries)
 entries_first count entries are n d lt =
     let few = length-take count entries in
     subst (IsEntry n) (sym (get_or-take count entries n d (omega (arith, lt, few)))) (are n d (omega (arith, lt, few)))
 
 -- parts of which the first names are left are whole, if those before the other names were added were
-module _ (mid now : Parts) (count : ℕ) (names : now.names ≡ take count mid.names) (lists : now.lists ≡ mid.lists)
+module _ (mid now : Inside) (count : ℕ) (names : now.names ≡ take count mid.names) (lists : now.lists ≡ mid.lists)
     (entries : now.entries.items ≡ take count mid.entries.items) (macros : now.macros ≡ mid.macros) where
-  first_whole : (start : Parts) → IsPartlyRead start mid → AreWhole start → IsSoundCollection (parts_view now)
-      → length now.entries.items ≡ length now.names → AreWhole now
+  first_whole : (start : Inside) → IsPartlyRead start mid → IsNameTable start → IsSoundCollection (name_table_view now)
+      → length now.entries.items ≡ length now.names → IsNameTable now
   first_whole start part whole sound counted =
       let same : registered_views now.lists.items ≡ registered_views start.lists.items =
       ap registered_views (ap (λ ls. ls.items) lists ∙ part.lists) in
-      let definitions : (n : ℕ) → definitions_of (parts_view now) n ≡ definitions_of (parts_view start) n =
+      let definitions : (n : ℕ) → definitions_of (name_table_view now) n ≡ definitions_of (name_table_view start) n =
       λ n. ap (λ ls. definitions_of (record { names = now.names; lists = ls }) n) same in
       let few = length-take count mid.entries.items in
       record {
@@ -101,7 +132,7 @@ module _ (mid now : Parts) (count : ℕ) (names : now.names ≡ take count mid.n
       }
 
   -- such as those that were whole with all names
-  pub left_first : AreWhole mid → IsSoundCollection (parts_view now) → AreWhole now
+  pub left_first : IsNameTable mid → IsSoundCollection (name_table_view now) → IsNameTable now
   left_first whole sound =
       first_whole mid (record {
         names = ([], sym (append-nil mid.names));
@@ -114,11 +145,11 @@ module _ (mid now : Parts) (count : ℕ) (names : now.names ≡ take count mid.n
       (omega (arith, ap length entries, ap length names, whole.counted, length-take count mid.entries.items, length-take count mid.names))
 
   -- and those before memory ran out
-  pub read_back : (start : Parts) → IsPartlyRead start mid → count ≡ length start.names → AreWhole start
-      → (parts_view now ≡ parts_view start) × AreWhole now
+  pub read_back : (start : Inside) → IsPartlyRead start mid → count ≡ length start.names → IsNameTable start
+      → (name_table_view now ≡ name_table_view start) × IsNameTable now
   read_back start part count_is whole =
       let same_names : now.names ≡ start.names = names ∙ ap (take count) part.names.1 ∙ take_at start.names part.names.0 count (sym count_is) in
-      let view : parts_view now ≡ parts_view start =
+      let view : name_table_view now ≡ name_table_view start =
       λ j. record { names = same_names j; lists = registered_views ((ap (λ ls. ls.items) lists ∙ part.lists) j) } in (
         view,
         first_whole start part whole (subst IsSoundCollection (sym view) whole.sound)

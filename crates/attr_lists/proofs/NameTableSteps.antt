@@ -11,7 +11,7 @@ use Rattle.std.proofs.lemmas.List.Folds.{list_any_at}
 use Rattle.std.proofs.lemmas.List.Kept.{AllPairs-filter}
 use Rattle.std.proofs.lemmas.List.Quantifiers.{all_pairs_push}
 use Rattle.std.proofs.lemmas.Option.{get_or_from_slice_get, slice_get-map, slice_get_read, slice_get_within}
-use Rattle.attr_lists.specs.declared.name_table.parts.Parts.{Parts}
+use Rattle.attr_lists.specs.declared.name_table.NameTable.TheInside.{Inside}
 use Rattle.attr_lists.specs.declared.name_table.registered.ListMacros.{ListMacros}
 use Rattle.attr_lists.specs.Collections.{MacroDefinition, NumberedBody, RegisteredList, Collection}
 use Rattle.attr_lists.specs.Definitions.{bodies_defined, bodies_of_list, bodies_of_number, definition_of, definitions_by, definitions_for}
@@ -21,7 +21,7 @@ use Rattle.attr_lists.specs.ListViews.{Entry}
 use Rattle.attr_lists.specs.Numbers.{names_in, number_of, numbered_lines, with_names}
 use Rattle.attr_lists.specs.inner.EntrySteps.{RemovesListed}
 use Rattle.attr_lists.specs.inner.EntryViews.{definitions_view, all_definitions, definitions_at, AreAllInOrder, AreEntries, AreInListOrder, AreValid}
-use Rattle.attr_lists.specs.inner.NameTableView.{parts_view, AreWhole, IsPartlyRegistered}
+use Rattle.attr_lists.specs.inner.NameTableView.{name_table_view, IsNameTable, IsPartlyRegistered}
 use Rattle.attr_lists.specs.inner.Registered.{bodies_of_name, registered_views, registered_view, AgreesOn, AreAscending, IsAbove, ListsBodies}
 use Rattle.attr_lists.specs.shared.MacroNumbers.{KeepsNumbers, ListsMacros, RemovesUndefined}
 use Rattle.attr_lists.proofs.ListLemmas.{get_or-map}
@@ -77,19 +77,20 @@ definitions_in_order number (l ∷ lists) ascend =
     (later_ids l.list_id number lists (λ k d lt. ascend zero (suc k) d (omega arith) (omega arith)))
     (definitions_in_order number lists (λ i j d lt below. ascend (suc i) (suc j) d (omega arith) (omega arith)))
 
-pub all_in_order : (p : Parts) → AreWhole p → AreAllInOrder p.entries.items
+pub all_in_order : (p : Inside) → IsNameTable p → AreAllInOrder p.entries.items
 all_in_order p whole = grind (arith, definitions_in_order)
 
 -- parts with the same content are whole too
-pub still_whole : (p q : Parts) → AreWhole p → parts_view q ≡ parts_view p → length q.entries.items ≡ length p.names → AreEntries q.entries.items
-    → ((n : ℕ) → definitions_at q.entries.items n ≡ definitions_of (parts_view p) n) → KeepsNumbers p.macros q.macros → AreWhole q
+pub still_whole : (p q : Inside) → IsNameTable p → name_table_view q ≡ name_table_view p → length q.entries.items ≡ length p.names →
+    AreEntries q.entries.items
+    → ((n : ℕ) → definitions_at q.entries.items n ≡ definitions_of (name_table_view p) n) → KeepsNumbers p.macros q.macros → IsNameTable q
 still_whole p q whole same count are defined kept = record {
   sound = subst IsSoundCollection (sym same) whole.sound;
   counted = count ∙ ap (λ (v : Collection). length v.names) (sym same);
   entries = are;
   defined = λ n. defined n ∙ ap (λ v. definitions_of v n) (sym same);
   ascending = subst (λ (v : Collection). AreAscending v.lists) (sym same) whole.ascending;
-  macros = subst (ListsMacros q.macros) (sym same) (still_listed (parts_view p) p.macros q.macros whole.macros kept);
+  macros = subst (ListsMacros q.macros) (sym same) (still_listed (name_table_view p) p.macros q.macros whole.macros kept);
 }
 
 -- ---- a list is removed
@@ -141,10 +142,10 @@ pub view_at : (lists : List ListMacros) (at : ℕ) (own : RegisteredList) (list 
 view_at lists at own list here is = grind (arith, slice_get_within, slice_get-map, slice_get_read, length-map)
 
 -- `q` are the parts after the list at an index is removed
-module _ (p q : Parts) (list_id at : ℕ) (own : RegisteredList) (whole : AreWhole p)
+module _ (p q : Inside) (list_id at : ℕ) (own : RegisteredList) (whole : IsNameTable p)
     (here : slice_get (registered_views p.lists.items) at ≡ Some own) (own_id : own.list_id ≡ list_id) (names : q.names ≡ p.names)
     (lists : q.lists.items ≡ remove p.lists.items at) where
-  pub left : parts_view q ≡ without_list list_id (parts_view p)
+  pub left : name_table_view q ≡ without_list list_id (name_table_view p)
   left =
       let others : registered_views q.lists.items ≡ filter (λ l. not (l.list_id == list_id)) (registered_views p.lists.items) =
       ap registered_views lists ∙ map_remove registered_view p.lists.items at
@@ -153,36 +154,37 @@ module _ (p q : Parts) (list_id at : ℕ) (own : RegisteredList) (whole : AreWho
       λ j. record { names = names j; lists = others j }
 
   pub left_whole : length q.entries.items ≡ length p.entries.items
-      → RemovesListed list_id own.macros p.entries.items q.entries.items → RemovesUndefined q.entries.items p.macros q.macros → AreWhole q
+      → RemovesListed list_id own.macros p.entries.items q.entries.items → RemovesUndefined q.entries.items p.macros q.macros → IsNameTable q
   left_whole count removed undefined =
-      let gone = removed_at (parts_view p) list_id in
-      let defined : (n : ℕ) → definitions_at q.entries.items n ≡ definitions_of (without_list list_id (parts_view p)) n =
+      let gone = removed_at (name_table_view p) list_id in
+      let defined : (n : ℕ) → definitions_at q.entries.items n ≡ definitions_of (without_list list_id (name_table_view p)) n =
       λ n. ⊎_elim
       (λ own_gone. own_gone ∙ ap (of_other_lists list_id) (whole.defined n) ∙ sym (gone n))
       (λ none. none.1 ∙ whole.defined n
-      ∙ sym (gone n ∙ ap (λ id. of_other_lists id (definitions_of (parts_view p) n)) (sym own_id)
+      ∙ sym (gone n ∙ ap (λ id. of_other_lists id (definitions_of (name_table_view p) n)) (sym own_id)
       ∙ no_other (registered_views p.lists.items) at own whole.ascending here n none.0))
       (removed.definitions n) in
       record {
-        sound = subst IsSoundCollection (sym left) (removed_sound (parts_view p) list_id whole.sound);
+        sound = subst IsSoundCollection (sym left) (removed_sound (name_table_view p) list_id whole.sound);
         counted = count ∙ whole.counted ∙ ap length (sym names);
         entries = removed.entries whole.entries;
         defined = λ n. defined n ∙ ap (λ v. definitions_of v n) (sym left);
         ascending = subst (λ (v : Collection). AreAscending v.lists) (sym left)
             (AllPairs-filter (λ x y. x.list_id < y.list_id) (λ l. not (l.list_id == list_id)) (registered_views p.lists.items) whole.ascending);
         macros = subst (ListsMacros q.macros) (sym left)
-            (removed_listed (parts_view p) list_id q.entries.items p.macros q.macros whole.macros undefined defined);
+            (removed_listed (name_table_view p) list_id q.entries.items p.macros q.macros whole.macros undefined defined);
       }
 
 -- the parts stay where no list has the list id
-pub none_left : (p : Parts) (list_id : ℕ) → Lack list_id (registered_views p.lists.items) → parts_view p ≡ without_list list_id (parts_view p)
+pub none_left : (p : Inside) (list_id : ℕ) → Lack list_id (registered_views p.lists.items) → name_table_view p ≡ without_list list_id
+    (name_table_view p)
 none_left p list_id lack = ap (λ lists. record { names = p.names; lists = lists }) (sym (others_all list_id (registered_views p.lists.items) lack))
 
 -- ---- a list is added
 
 -- `q` are the parts after the addition
-module _ (p q : Parts) (list_id : ℕ) (entries : List Entry) (list : List NumberedBody) (whole : AreWhole p)
-    (above : IsAbove list_id (registered_views p.lists.items)) (added : parts_view q ≡ with_list list_id entries (parts_view p)) where
+module _ (p q : Inside) (list_id : ℕ) (entries : List Entry) (list : List NumberedBody) (whole : IsNameTable p)
+    (above : IsAbove list_id (registered_views p.lists.items)) (added : name_table_view q ≡ with_list list_id entries (name_table_view p)) where
   abbrev lines : List Entry
   lines = numbered_lines (with_names p.names (names_in entries)) entries
 
@@ -190,12 +192,12 @@ module _ (p q : Parts) (list_id : ℕ) (entries : List Entry) (list : List Numbe
       → AreEntries q.entries.items
       → ((n : ℕ) → n < length q.entries.items
       → definitions_at q.entries.items n ≡ definitions_at p.entries.items n ++ map (definition_of list_id) (bodies_of_number n list))
-      → KeepsNumbers p.macros q.macros → ListsBodies q.macros list → AreWhole q
+      → KeepsNumbers p.macros q.macros → ListsBodies q.macros list → IsNameTable q
   added_whole macros valid count are defined kept listed =
       let fresh = lack_registered list_id (registered_views p.lists.items) (above_lacks list_id (registered_views p.lists.items) above) in
       let names_are : q.names ≡ with_names p.names (names_in entries) = ap (λ (v : Collection). v.names) added in
-      let sound : IsSoundCollection (parts_view q) = subst IsSoundCollection (sym added)
-      (added_sound (parts_view p) list_id entries whole.sound fresh (subst AreValid names_are valid)) in
+      let sound : IsSoundCollection (name_table_view q) = subst IsSoundCollection (sym added)
+      (added_sound (name_table_view p) list_id entries whole.sound fresh (subst AreValid names_are valid)) in
       let bodies : (n : ℕ) → bodies_of_number n list ≡ bodies_defined n lines =
       λ n. ap (bodies_of_number n) macros ∙ bodies_of_lines n lines in
       record {
@@ -205,8 +207,8 @@ module _ (p q : Parts) (list_id : ℕ) (entries : List Entry) (list : List Numbe
         defined = λ n. ⊎_elim
             (λ (lt : n < length q.entries.items).
             defined n lt ∙ ap (λ ds. ds ++ map (definition_of list_id) (bodies_of_number n list)) (whole.defined n)
-            ∙ ap (λ bs. definitions_of (parts_view p) n ++ map (definition_of list_id) bs) (bodies n)
-            ∙ sym (ap (λ v. definitions_of v n) added ∙ added_at (parts_view p) list_id entries n))
+            ∙ ap (λ bs. definitions_of (name_table_view p) n ++ map (definition_of list_id) bs) (bodies n)
+            ∙ sym (ap (λ v. definitions_of v n) added ∙ added_at (name_table_view p) list_id entries n))
             (λ (past : length q.entries.items ≤ n).
             get_or_past (all_definitions q.entries.items) n [] (omega (arith, past, length-map q.entries.items definitions_view))
             ∙ sym (sound.numbers n (omega (arith, past, count))))
@@ -214,27 +216,27 @@ module _ (p q : Parts) (list_id : ℕ) (entries : List Entry) (list : List Numbe
         ascending = subst (λ (v : Collection). AreAscending v.lists) (sym added)
             (still_ascending (registered_views p.lists.items) (record { list_id = list_id; macros = macros_defined lines }) whole.ascending above);
         macros = subst (ListsMacros q.macros) (sym added)
-            (added_listed (parts_view p) list_id entries p.macros q.macros whole.macros kept (λ n none. sym (bodies n) ∙ listed n none));
+            (added_listed (name_table_view p) list_id entries p.macros q.macros whole.macros kept (λ n none. sym (bodies n) ∙ listed n none));
       }
 
 -- `mid` are the parts when memory runs out, and `now` those from which the list's definitions are taken back
-module _ (start mid now : Parts) (list_id : ℕ) (part : IsPartlyRegistered list_id start mid) (whole : AreWhole start)
+module _ (start mid now : Inside) (list_id : ℕ) (part : IsPartlyRegistered list_id start mid) (whole : IsNameTable start)
     (above : IsAbove list_id (registered_views start.lists.items)) (names : now.names ≡ mid.names)
     (definitions : all_definitions now.entries.items ≡ map (of_other_lists list_id) (all_definitions mid.entries.items))
     (entries : AreEntries mid.entries.items → AreEntries now.entries.items) (lists : now.lists.items ≡ mid.lists.items)
     (macros : now.macros ≡ mid.macros)
   where
-    same_view : parts_view now ≡ parts_view start
+    same_view : name_table_view now ≡ name_table_view start
     same_view = λ j. record { names = (names ∙ part.names) j; lists = registered_views ((lists ∙ part.lists) j) }
 
-    defined_now : (n : ℕ) → definitions_at now.entries.items n ≡ definitions_of (parts_view start) n
+    defined_now : (n : ℕ) → definitions_at now.entries.items n ≡ definitions_of (name_table_view start) n
     defined_now n =
         ap (λ l. get_or l n []) definitions ∙ get_or-map (of_other_lists list_id) (all_definitions mid.entries.items) n []
         ∙ part.definitions n ∙ ap (of_other_lists list_id) (whole.defined n)
-        ∙ of_other_lists-free list_id (definitions_of (parts_view start) n)
+        ∙ of_other_lists-free list_id (definitions_of (name_table_view start) n)
         (none_of_list list_id n (registered_views start.lists.items) (above_lacks list_id (registered_views start.lists.items) above))
 
-    pub taken_back : (parts_view now ≡ parts_view start) × AreWhole now
+    pub taken_back : (name_table_view now ≡ name_table_view start) × IsNameTable now
     taken_back = (
       same_view,
       still_whole start now whole same_view
@@ -280,8 +282,8 @@ module _ (table : Collection) (at : ℕ) (own : RegisteredList) (sound : IsSound
 -- ---- a list is registered
 
 -- no list has an id that is above those of the lists
-pub above_fresh : (p : Parts) (seen : List ListMacros) (list_id : ℕ) → seen ≡ p.lists.items → IsAbove list_id (registered_views seen)
-    → is_registered (parts_view p) list_id ≡ false
+pub above_fresh : (p : Inside) (seen : List ListMacros) (list_id : ℕ) → seen ≡ p.lists.items → IsAbove list_id (registered_views seen)
+    → is_registered (name_table_view p) list_id ≡ false
 above_fresh p seen list_id is above =
     let lists = registered_views p.lists.items in
     lack_registered list_id lists (above_lacks list_id lists (subst (λ ls. IsAbove list_id (registered_views ls)) is above))

@@ -3,7 +3,7 @@
 //! A name's number is its index among all names in the order in which they are first seen, from 0. It never changes.
 //! Each list is registered under a list id that no other registered list has. A definition belongs to a list, and is
 //! removed with it.
-ghost use Rattle.std.specs.Prelude.{◌≡◌, true, false, ◌<◌, ◌↔◌, length, All, Some, None, nat_lt, if◌then◌else◌, option_map, IfOk, OnOk, OnErr, IfSome, IsSome, IsTrue, slice_get, option_copied};
+ghost use Rattle.std.specs.Prelude.{◌≡◌, true, false, ◌<◌, ◌↔◌, length, All, Some, None, nat_lt, if◌then◌else◌, option_map, IfOk, OnOk, OnErr, IfSome, IsSome, IsTrue, slice_get, option_copied, take};
 ghost use Rattle.attr_lists.specs.Definitions.{definitions_of, last_defined, macro_body, without_list, HoldsList, IsSoundCollection, RegistersAs};
 ghost use Rattle.attr_lists.specs.shared.Reading.{IsReadWith, NumbersLines, with_first};
 ghost use Rattle.attr_lists.specs.shared.Keeping.{StayRegistered, OthersStayRegistered, IsNumbered};
@@ -19,11 +19,12 @@ mod entry;
 mod macros;
 pub(crate) mod name_set;
 mod numbers;
-mod parts;
 mod registered;
 
+use crate::name_table::entry::NameEntry;
 use crate::name_table::name_set::NameSet;
-use crate::name_table::parts::Parts;
+use crate::name_table::registered::{ListMacros, has_lines, index_of};
+use crate::parser::read_buffer;
 use crate::types::{Dropped, Metadata, Value};
 use attr_glob::search::pattern::Mapping;
 use std::alloc::{AllocError, Global};
@@ -32,9 +33,28 @@ use std::marker::Model;
 use std::rc::Rc;
 
 /// Attribute names by number, and the definitions of macros, each under the list id of its list.
-#[derive(Debug, Drop)]
+#[derive(Debug)]
 pub struct NameTable {
-    parts: Parts,
+    // The index of a name is its number.
+    names: NameSet,
+    // What the lists define, name by name. The index of a name's entry is its number.
+    entries: Vec<NameEntry>,
+    // The lists, in the order of their addition. Their list ids ascend.
+    lists: Vec<ListMacros>,
+    // The numbers of the names that have definitions.
+    macros: BTreeSet<usize>,
+}
+
+// By hand, so that a proof drops it by one call.
+impl Drop for NameTable {
+    fn drop(self) {
+        let NameTable {
+            names: _,
+            entries: _,
+            lists: _,
+            macros: _,
+        } = self;
+    }
 }
 
 impl Model for NameTable {
@@ -57,12 +77,10 @@ impl NameTable {
         ensures sound { IsSoundCollection result }
     {
         NameTable {
-            parts: Parts {
-                names: NameSet::new(alloc),
-                entries: Vec::new(alloc),
-                lists: Vec::new(alloc),
-                macros: BTreeSet::new(alloc),
-            },
+            names: NameSet::new(alloc),
+            entries: Vec::new(alloc),
+            lists: Vec::new(alloc),
+            macros: BTreeSet::new(alloc),
         }
     }
 
@@ -71,21 +89,21 @@ impl NameTable {
         ensures count { result ≡ length self.now.names }
         ensures sound { IsSoundCollection self.now }
     {
-        self.parts.names.len()
+        self.names.len()
     }
 
     /// The number of a name, if the table has it.
     pub fn number_of(&self, name: &str) -> Option<usize>
         ensures { result ≡ number_of self.now.names name.now }
     {
-        self.parts.names.number_of(name)
+        self.names.number_of(name)
     }
 
     /// The name with this number, if there is one.
     pub fn name(&self, number: usize) -> Option<&str>
         ensures { option_copied result ≡ slice_get self.now.names number }
     {
-        self.parts.names.name(number)
+        self.names.name(number)
     }
 
     /// The metadata of the name with this number: the number, and the body of its last definition, which is empty if
@@ -96,7 +114,7 @@ impl NameTable {
         ensures body { IfSome result (λ m. m.now.macro_attributes.items
             ≡ macro_body self.now number) }
     {
-        let entry = self.parts.entries.get(number)?;
+        let entry = self.entries.get(number)?;
         Some(entry.metadata())
     }
 
@@ -106,7 +124,7 @@ impl NameTable {
         ensures body { option_map (λ known. known.now.value.macro_attributes.items) result
             ≡ last_defined (definitions_of self.now number) }
     {
-        let entry = self.parts.entries.get(number)?;
+        let entry = self.entries.get(number)?;
         entry.definition()
     }
 
@@ -114,7 +132,7 @@ impl NameTable {
     pub fn macros(&self) -> &BTreeSet<usize>
         ensures { ListsMacros result.now self.now }
     {
-        &self.parts.macros
+        &self.macros
     }
 
     /// The names with their metadata, by number.
@@ -132,8 +150,8 @@ impl NameTable {
             ≡ (if nat_lt number (length self.now.names)
             then Some (named_body self.now number) else None) }
     {
-        let name = self.parts.names.name(number)?;
-        let entry = self.parts.entries.get(number)?;
+        let name = self.names.name(number)?;
+        let entry = self.entries.get(number)?;
         Some((name, entry.metadata()))
     }
 
@@ -156,14 +174,14 @@ impl NameTable {
         ensures sound { IsSoundCollection self.new }
         ensures err { OnErr result (self.new ≡ self.old) }
     {
-        let count = self.len();
-        match self.parts.read(alloc, bytes, allow_macros) {
-            Ok(read) => Ok(read),
-            Err(error) => {
-                self.parts.take_back(count);
-                Err(error)
-            }
+        let count = self.names.len();
+        let read = read_buffer(alloc, &mut self.names, bytes, allow_macros);
+        let extended = entry::extend(alloc, &mut self.entries, self.names.len());
+        if read.is_err() || extended.is_err() {
+            keep_first(&mut self.names, &mut self.entries, count);
+            return Err(AllocError);
         }
+        read
     }
 
     /// Numbers the lines of a list that defines no macro of a bad name: its items and macros get the numbers of their names, and new
@@ -184,14 +202,14 @@ impl NameTable {
         ensures sound { IsSoundCollection self.new }
         ensures err { OnErr result (self.new ≡ self.old) }
     {
-        let count = self.len();
-        match self.parts.number(alloc, mappings) {
-            Ok(()) => Ok(()),
-            Err(error) => {
-                self.parts.take_back(count);
-                Err(error)
-            }
+        let count = self.names.len();
+        let numbered = numbers::number_list(alloc, &mut self.names, mappings);
+        let extended = entry::extend(alloc, &mut self.entries, self.names.len());
+        if numbered.is_err() || extended.is_err() {
+            keep_first(&mut self.names, &mut self.entries, count);
+            return Err(AllocError);
         }
+        numbered
     }
 
     /// Removes the names whose numbers are `count` or greater, which no registered list has. It takes no memory.
@@ -199,7 +217,7 @@ impl NameTable {
         requires { IsSoundCollection (with_first count self.old) }
         ensures { self.new ≡ with_first count self.old }
     {
-        self.parts.take_back(count);
+        keep_first(&mut self.names, &mut self.entries, count);
     }
 
     /// Registers a list whose lines have the numbers of their names, and returns its list id, which no registered list has. Its
@@ -222,16 +240,18 @@ impl NameTable {
         ensures sound { IsSoundCollection self.new }
         ensures err { OnErr result (self.new ≡ self.old) }
     {
-        let Some(list_id) = registered::next_id(&self.parts.lists) else {
+        let Some(list_id) = registered::next_id(&self.lists) else {
             return Err(AllocError);
         };
-        match self.parts.register(alloc, list_id, mappings) {
-            Ok(()) => Ok(list_id),
-            Err(error) => {
-                entry::take_back(&mut self.parts.entries, list_id);
-                Err(error)
-            }
+        let macros = numbers::macros_of(alloc, mappings)?;
+        self.lists.reserve(1)?;
+        macros::insert_macros(&mut self.macros, &macros)?;
+        if entry::define_list(&mut self.entries, list_id, &macros).is_err() {
+            entry::take_back(&mut self.entries, list_id);
+            return Err(AllocError);
         }
+        self.lists.push_reserved(ListMacros { list_id, macros });
+        Ok(list_id)
     }
 
     /// Removes the list with this list id, if there is one, and its definitions. Each name then has the body of the last
@@ -242,7 +262,11 @@ impl NameTable {
         ensures others { OthersStayRegistered list_id self.old self.new }
         ensures sound { IsSoundCollection self.new }
     {
-        self.parts.remove(list_id);
+        if let Some(at) = index_of(&self.lists, list_id) {
+            let list = self.lists.remove(at);
+            entry::remove_list(&mut self.entries, list_id, &list.macros);
+            macros::remove_macros(&self.entries, &mut self.macros, &list.macros);
+        }
     }
 
     /// Whether the list is registered under the list id: for each name, the definitions under the list id are, in their order,
@@ -251,7 +275,10 @@ impl NameTable {
     pub fn holds(&self, list_id: usize, mappings: &[Mapping<Value>]) -> bool
         ensures { IsTrue result ↔ HoldsList self.now list_id (entries_view mappings.now) }
     {
-        self.parts.holds(list_id, mappings)
+        match index_of(&self.lists, list_id) {
+            Some(at) => has_lines(&self.names, &self.lists[at].macros, mappings),
+            None => false,
+        }
     }
 
     /// A copy, with the lists that are registered.
@@ -263,19 +290,22 @@ impl NameTable {
         ensures content { IfOk result (λ copy. copy ≡ self.now) }
         ensures sound { IsSoundCollection self.now }
     {
-        let names = self.parts.names.clone(alloc)?;
-        let entries = entry::clone_entries(alloc, &self.parts.entries)?;
-        let lists = self.parts.lists.clone()?;
-        let macros = self.parts.macros.clone()?;
         Ok(NameTable {
-            parts: Parts {
-                names,
-                entries,
-                lists,
-                macros,
-            },
+            names: self.names.clone(alloc)?,
+            entries: entry::clone_entries(alloc, &self.entries)?,
+            lists: self.lists.clone()?,
+            macros: self.macros.clone()?,
         })
     }
+}
+
+// Removes the names whose numbers are `count` or greater, and their entries.
+fn keep_first(names: &mut NameSet, entries: &mut Vec<NameEntry>, count: usize)
+    ensures names { names.new ≡ take count names.old }
+    ensures entries { entries.new.items ≡ take count entries.old.items }
+{
+    names.truncate(count);
+    entries.truncate(count);
 }
 
 /// An iterator over names and their metadata, by number.

@@ -1,7 +1,6 @@
 -- The view of a name table (own).
 use Rattle.std.specs.Prelude.{◌≡◌, ℕ, ◌≤◌, length}
 use Rattle.attr_lists.specs.declared.name_table.NameTable.TheInside.{Inside}
-use Rattle.attr_lists.specs.declared.name_table.parts.Parts.{Parts}
 use Rattle.attr_lists.specs.Collections.{Collection}
 use Rattle.attr_lists.specs.Definitions.{definitions_of, IsSoundCollection}
 use Rattle.attr_lists.specs.inner.EntrySteps.{KeepsOtherDefinitions}
@@ -10,26 +9,20 @@ use Rattle.attr_lists.specs.inner.Registered.{registered_views, AreAscending}
 use Rattle.attr_lists.specs.Numbers.{AppendsNames}
 use Rattle.attr_lists.specs.shared.MacroNumbers.{KeepsNumbers, ListsMacros}
 
-abbrev pub parts_view : Parts → Collection
-parts_view p = record { names = p.names; lists = registered_views p.lists.items }
-
 abbrev pub name_table_view : Inside → Collection
-name_table_view table = parts_view table.parts
+name_table_view table = record { names = table.names; lists = registered_views table.lists.items }
 
 -- each name has an entry, which has the definitions that the lists have of it
-pub record AreWhole (p : Parts) : Type 0 where
-  pub sound : IsSoundCollection (parts_view p)
-  pub counted : length p.entries.items ≡ length p.names
-  pub entries : AreEntries p.entries.items
-  pub defined : (number : ℕ) → definitions_at p.entries.items number ≡ definitions_of (parts_view p) number
-  pub ascending : AreAscending (registered_views p.lists.items)
-  pub macros : ListsMacros p.macros (parts_view p)
-
-abbrev pub IsNameTable : Inside → Type 0
-IsNameTable table = AreWhole table.parts
+pub record IsNameTable (table : Inside) : Type 0 where
+  pub sound : IsSoundCollection (name_table_view table)
+  pub counted : length table.entries.items ≡ length table.names
+  pub entries : AreEntries table.entries.items
+  pub defined : (number : ℕ) → definitions_at table.entries.items number ≡ definitions_of (name_table_view table) number
+  pub ascending : AreAscending (registered_views table.lists.items)
+  pub macros : ListsMacros table.macros (name_table_view table)
 
 -- what is left of lines that were being numbered when memory ran out: some of their names
-pub record IsPartlyRead (old new : Parts) : Type 0 where
+pub record IsPartlyRead (old new : Inside) : Type 0 where
   pub names : AppendsNames old.names new.names
   pub counted : length old.entries.items ≤ length new.entries.items
   pub entries : AreEntries new.entries.items
@@ -38,7 +31,7 @@ pub record IsPartlyRead (old new : Parts) : Type 0 where
   pub macros : new.macros ≡ old.macros
 
 -- what is left of a list that was being registered when memory ran out: some of its definitions
-pub record IsPartlyRegistered (list_id : ℕ) (old new : Parts) : Type 0 where
+pub record IsPartlyRegistered (list_id : ℕ) (old new : Inside) : Type 0 where
   pub names : new.names ≡ old.names
   pub counted : length new.entries.items ≡ length old.entries.items
   pub entries : AreEntries new.entries.items
