@@ -144,14 +144,6 @@ pub record Follows (Met : ℕ → Type 0) (links : List ℕ) (head end : ℕ) (o
   pub all : (row : ℕ) → IsLed links head row → Met row → (has_row new row ≡ true) ⊎ IsLed links end row
   pub within : end ≤ length links
 
-pub follows_head : (Met : ℕ → Type 0) (links : List ℕ) (head : ℕ) (old : List ℕ) → head ≤ length links → Follows Met links head head old old
-follows_head Met links head old within = record {
-  kept = λ row has. has;
-  sound = λ row has. inl has;
-  all = λ row led met. inr led;
-  within = within;
-}
-
 pub follows_other : (Met : ℕ → Type 0) (links : List ℕ) (head end next : ℕ) (old new : List ℕ) → end ≡ suc next →
     get_or links next 0 ≤ next → (Met next → ⊥) → Follows Met links head end old new → Follows Met links head (get_or links next 0) old new
 follows_other Met links head end next old new is earlier lacks before = record {

@@ -1,14 +1,12 @@
 -- Which numbers are those of a subject's keys, and which keys the texts have.
-use Rattle.std.proofs.Common.{◌≡◌, ℕ, zero, suc, Bool, true, false, List, [], ◌∷◌, reverse, map}
-use Rattle.std.proofs.Common.{refl, sym, ap, ◌∙◌, arith, nat_eq}
+use Rattle.std.proofs.Common.{◌≡◌, ℕ, Bool, true, false, List}
+use Rattle.std.proofs.Common.{sym, ap, ◌∙◌, nat_eq}
 use Rattle.std.specs.List.{starts_with}
-use Rattle.std.specs.Prelude.{slice_get}
-use Rattle.std.proofs.lemmas.Bool.Decides.{nat_tests}
 use Rattle.attr_keys.specs.declared.key.Key.{Key}
 use Rattle.attr_keys.specs.shared.KeyContents.{KeyContent}
 use Rattle.attr_keys.specs.shared.Codes.{codes_of}
 use Rattle.attr_keys.specs.inner.Cases.{in_case, content_in_case}
-use Rattle.attr_keys.specs.shared.Meeting.{directed, is_end, has_content, key_content, content_met_at}
+use Rattle.attr_keys.specs.shared.Meeting.{directed, is_end, has_content, key_content}
 use Rattle.attr_keys.proofs.SeenTexts.{codes_in_case, directed_in_case}
 
 -- a key's text without a capital letter
@@ -25,12 +23,3 @@ pub has_in_case : (fold : Bool) (text : List ℕ) (key : KeyContent) → has_con
 has_in_case fold text key =
     ap (λ l. starts_with nat_eq l (codes_of false (in_case fold key.text) key.is_whole)) (codes_in_case fold text true)
     ∙ ap (starts_with nat_eq (codes_of fold text true)) (codes_in_case fold key.text key.is_whole)
-
-met_in_case : (fold : Bool) (name path : List ℕ) (keys : List KeyContent) (row : ℕ) →
-    content_met_at false (in_case fold name) (in_case fold path) (slice_get (map (content_in_case fold) keys) row)
-    ≡ content_met_at fold name path (slice_get keys row)
-met_in_case fold name path [] row = refl
-met_in_case fold name path (key ∷ keys) (suc row) = met_in_case fold name path keys row
-met_in_case fold name path (key ∷ keys) zero =
-    let fact = has_in_case fold (reverse name) key in
-    grind (arith, nat_tests, has_in_case fold name key, directed_in_case true fold name, fact, has_in_case fold path key)

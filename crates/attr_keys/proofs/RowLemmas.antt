@@ -1,11 +1,9 @@
 -- Numbers that are among others, after edits.
-use Rattle.std.proofs.Common.{◌≡◌, ℕ, Bool, true, false, ◌&&◌, ◌||◌, List, [], ◌∷◌, reverse, refl, arith, eqb}
+use Rattle.std.proofs.Common.{◌≡◌, ℕ, Bool, true, false, ◌&&◌, ◌||◌, List, [], ◌∷◌, refl, arith, eqb}
 use Rattle.std.specs.List.{dedup, dedup_from}
-use Rattle.std.specs.List.Sorted.{IsStrictlyIncreasing}
 use Rattle.std.proofs.lemmas.Bool.Decides.{nat_tests}
 use Rattle.std.proofs.lemmas.Bool.{eqb-true}
-use Rattle.std.proofs.lemmas.List.{length-reverse, get_or-reverse}
-use Rattle.attr_keys.specs.shared.Rows.{has_row, IsFalling}
+use Rattle.attr_keys.specs.shared.Rows.{has_row}
 
 pub by_test : {G : Type 0} (b : Bool) → (b ≡ true → G) → (b ≡ false → G) → G
 by_test true t f = t refl
@@ -23,7 +21,3 @@ has_dedup_from row k (x ∷ xs) = grind (arith, nat_tests, eqb-true, has_dedup_f
 
 pub has_dedup : (row : ℕ) (xs : List ℕ) → has_row (dedup eqb xs) row ≡ has_row xs row
 has_dedup row xs = grind (arith, nat_tests, has_dedup_from)
-
--- a list that rises, reversed
-pub falling_reverse : (xs : List ℕ) → IsStrictlyIncreasing xs → IsFalling (reverse xs)
-falling_reverse xs up k lt = grind (arith, nat_tests, length-reverse, get_or-reverse)

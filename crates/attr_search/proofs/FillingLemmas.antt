@@ -268,13 +268,6 @@ then_by first second third kept p q = record {
 }
 
 -- fewer steps are left
-pub fewer_popped : (state : SearchContents) (at top : ItemIndex) (stack rest : List ItemIndex) → stack ≡ rest ++ top ∷ [] →
-    steps_left state top rest < steps_left state at stack
-fewer_popped state at top stack rest is =
-    let sums = sum_by-append (λ w. w.index) rest (top ∷ []) in
-    let counts = length-append rest (top ∷ []) in
-    rw is (omega (arith, sums, counts))
-
 pub fewer_filled : {line : MatchingLine} {own : ItemIndex} (before after : SearchContents) (at : ItemIndex) (stack : List ItemIndex) →
     FillsItem line own before after → own.index < at.index → steps_left after own stack < steps_left before at stack
 fewer_filled {line} {own} before after at stack p lt =

@@ -2,7 +2,7 @@
 use Rattle.std.proofs.lemmas.Bool.Decides.{eqb_tells}
 use Rattle.std.proofs.Common.{◌≡◌, ◌≢◌, ℕ, suc, ◌+◌, ◌<◌, ◌≤◌, ◌⊎◌, inl, inr, true, false, cond, List, [], ◌∷◌, ◌++◌, length, get_or, Option}
 use Rattle.std.proofs.Common.{Some, None, refl, sym, ap, subst, ◌∙◌, arith, eq-eqb, nat_eq}
-use Rattle.std.specs.Prelude.{Contains, MatchOption, ⊤, ◌↔◌, IsTrue, is_none, option_map, slice_get}
+use Rattle.std.specs.Prelude.{Contains, MatchOption, ⊤, ◌↔◌, IsTrue, is_none, slice_get}
 use Rattle.std.specs.List.{AllPairs, IsDistinct, list_all}
 use Rattle.std.specs.Bool.{Decides}
 use Rattle.std.proofs.lemmas.Bool.{eqb-true}
@@ -40,9 +40,6 @@ latest_other keys bound own key latest is other l = grind (arith, below_or)
 latest_less : (keys : List ℕ) (bound own key : ℕ) (latest : Option ℕ) → slice_get keys bound ≡ Some own → own ≢ key →
     IsLatest keys (bound + 1) key latest → IsLatest keys bound key latest
 latest_less keys bound own key latest is other l = grind (arith, below_or, same_Some)
-
-abbrev option_key : Option Link → Option ℕ
-option_key link = option_map (λ l. l.key) link
 
 -- the keys of links, with one more link
 keys_front : (links : List Link) (link : Link) (m : ℕ) → m < length links →

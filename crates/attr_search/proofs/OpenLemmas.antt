@@ -5,7 +5,7 @@ use Rattle.std.specs.Prelude.{if◌then◌else◌}
 use Rattle.std.proofs.lemmas.Bool.{cases_eq, cases_lt}
 use Rattle.std.proofs.Math.Bool.{and-false, and-true}
 use Rattle.std.proofs.lemmas.List.{ext_get_or, get_or_append_left, get_or_past, get_or-set_other, get_or-set_same}
-use Rattle.std.proofs.lemmas.List.{get_or-take, length-append, length-replicate, length-set, length-take}
+use Rattle.std.proofs.lemmas.List.{get_or-take, length-set, length-take}
 use Rattle.attr_table.specs.Cut.{is_done}
 use Rattle.attr_table.specs.Skipped.{narrowed, skipped_answer}
 use Rattle.attr_table.specs.Table.{Slots}
@@ -69,10 +69,6 @@ pub open_whole : {X : Type 0} (needed : List Bool) (slots : List (Option X)) (is
 open_whole needed slots is_open number same end all = grind (arith, get_or_past, cases_lt)
 
 -- flags of as many numbers as a count: the first of those that there were, and more that are not set
-pub length_resized : (flags resized : List Bool) (n count : ℕ) → n ≡ length flags → resized ≡ take count flags ++ replicate (count - n) false →
-    length resized ≡ count
-length_resized flags resized n count same is = grind (arith, length-take, length-append, length-replicate)
-
 pub flag_resized : (flags resized : List Bool) (n count number : ℕ) → n ≡ length flags →
     resized ≡ take count flags ++ replicate (count - n) false → number < count → number < length flags →
     get_or resized number false ≡ get_or flags number false
