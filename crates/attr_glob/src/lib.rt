@@ -8,4 +8,4 @@ pub mod quote;
 pub mod search;
 
 pub use crate::pattern::Pattern;
-pub use attr_wildmatch::{token, wildmatch};
+pub use attr_wildmatch::{pairs, token, wildmatch};

@@ -25,6 +25,7 @@ use Rattle.attr_search.specs.shared.Slotted.{LinesHaveSlots, ListsHaveSlots}
 use Rattle.attr_search.specs.inner.FoundLists.{AreListsFor}
 use Rattle.attr_search.specs.inner.Searched.{KeepsState, Rounds, Searched, SearchedLine, SearchedLines, SearchedList, SearchedLists}
 use Rattle.attr_search.specs.inner.Searched.{over, state_bodies, state_wanted}
+use Rattle.attr_search.specs.inner.Lines.{listed_tasks}
 use Rattle.attr_search.specs.inner.Trying.{AreTried}
 use Rattle.attr_search.proofs.CandidateLemmas.{tried_most}
 use Rattle.attr_search.proofs.RoundLemmas.{list_round, list_unasked, rounds_append, rounds_done}
@@ -53,6 +54,13 @@ rounds_from {lines} first second third kept p = grind arith
 indexes_append : (rest : PathQuery) (listed : Listed) (xs ys : List ℕ) (first second third : SearchContents) → KeepsState first second →
     SearchedLines rest listed xs first second → SearchedLines rest listed ys second third → SearchedLines rest listed (xs ++ ys) first third
 indexes_append rest listed xs ys first second third kept p q = grind (arith, length-append, map-append, rounds_append, rounds_from)
+
+-- queries for one path search a line alike
+pub line_of_query : (a b : PathQuery) (listed : Listed) (index : ℕ) (first second : SearchContents) → a.path ≡ b.path → a.case ≡ b.case →
+    a.is_dir ≡ b.is_dir → SearchedLine a listed index first second → SearchedLine b listed index first second
+line_of_query a b listed index first second path case is_dir done =
+    let same : listed_tasks a listed index ≡ listed_tasks b listed index = rw (path, case, is_dir) refl in
+    subst (λ tasks. Searched (λ names. LinesAreNamed names listed.lines) 1 (tasks ∷ []) first second) same done
 
 pub more_indexes : (rest : PathQuery) (listed : Listed) (indexes : List ℕ) (k index : ℕ) (first second third : SearchContents) →
     KeepsState first second → k < length indexes → index ≡ get_or indexes k index →

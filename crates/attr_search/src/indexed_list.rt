@@ -148,7 +148,7 @@ impl IndexedList {
             (bstr_bytes rest.entry.path) rest.entry.is_dir) }
     {
         let line = &self.index.lines[index];
-        if !line.pattern.takes_kind(rest.is_dir) {
+        if !line.pattern.takes_kind(rest.is_dir) || !line.may_match(rest.pairs) {
             return Ok(false);
         }
         let part = line

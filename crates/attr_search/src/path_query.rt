@@ -1,12 +1,14 @@
 //! What a search looks up in lists: a path.
 
-ghost use Rattle.std.specs.Prelude.{◌≡◌, IfSome, option_map};
+ghost use Rattle.std.specs.Prelude.{◌≡◌, ℕ, true, IfSome, option_map};
 ghost use Rattle.bstr.specs.BStr.{bstr_bytes};
+ghost use Rattle.attr_wildmatch.specs.Pairs.{has_pair, holds};
 ghost use Rattle.attr_glob.specs.BaseNames.{base_name_offset};
 ghost use Rattle.attr_glob.specs.Bases.{rest_below};
 ghost use Rattle.attr_glob.specs.Views.{base_bytes};
 ghost use Rattle.attr_glob.specs.shared.LineShapes.{folds};
 
+use attr_glob::pairs::Pairs;
 use attr_glob::pattern::{Case, base_name_offset};
 use attr_glob::search::pattern::List;
 use attr_lists::types::Attributes;
@@ -23,6 +25,9 @@ pub struct PathQuery<'a> {
     pub case: Case,
     /// Whether the path is a directory, if that is known.
     pub is_dir: Option<bool>,
+    /// The kinds of the pairs in the path, and maybe others.
+    pub pairs: Pairs,
+    ghost paired: { (k : ℕ) → has_pair k (bstr_bytes path) ≡ true → holds pairs k ≡ true },
     ghost offset: { name_offset ≡ base_name_offset (bstr_bytes path) },
 }
 
@@ -39,6 +44,7 @@ impl<'a> PathQuery<'a> {
             name_offset,
             case,
             is_dir,
+            pairs: Pairs::all(),
         }
     }
 
@@ -59,7 +65,22 @@ impl<'a> PathQuery<'a> {
             name_offset,
             case: self.case,
             is_dir: self.is_dir,
+            pairs: Pairs::all(),
         })
+    }
+
+    /// The same query, to be matched against so many lines. If the path is short for them, lines that need other pairs than it has
+    /// are passed over.
+    pub fn for_lines(mut self, count: usize) -> PathQuery<'a>
+        ensures path { result.path ≡ self.entry.path }
+        ensures case { result.case ≡ self.entry.case }
+        ensures is_dir { result.is_dir ≡ self.entry.is_dir }
+    {
+        let path = self.path.as_bytes();
+        if path.len() / 2 < count {
+            self.pairs = Pairs::of(path);
+        }
+        self
     }
 
     /// Whether ASCII letters match regardless of case.

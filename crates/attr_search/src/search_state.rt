@@ -264,11 +264,12 @@ impl SearchState {
             (SearchedLines rest.entry (listed_view list.now) indexes.now)
             self.old.slots self.new.slots }
     {
+        let query = rest.for_lines(indexes.len());
         for line in indexes {
             if self.slots.is_done() {
                 return Ok(());
             }
-            self.search_line(alloc, list, *line, rest)?;
+            self.search_line(alloc, list, *line, query)?;
         }
         Ok(())
     }

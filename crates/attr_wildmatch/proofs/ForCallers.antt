@@ -10,3 +10,6 @@ pub use Rattle.attr_wildmatch.proofs.Ends.{same_answer}
 -- decides the relation. exact_answer: an answer by the relation of tokens and a value is that of the test.
 pub use Rattle.attr_wildmatch.proofs.DecidingLemmas.{match_of_test, text_match_of_test, test_of_text_match}
 pub use Rattle.attr_wildmatch.proofs.Ends.{exact_answer}
+-- pair_below: a pair that a text has is of one of 64 kinds. pair_in_end: what an end of a text has, the text has. pair_needed: each pair
+-- that tokens need is in what they match.
+pub use Rattle.attr_wildmatch.proofs.PairLemmas.{pair_below, pair_in_end, pair_needed}

@@ -17,4 +17,5 @@ pub mod SpellTokens
 pub mod Ends
 pub mod Directories
 pub mod FirstBytes
+pub mod PairLemmas
 pub mod ForCallers

@@ -6,4 +6,5 @@ pub mod TokenList
 pub mod Spelling
 pub mod Matching
 pub mod Deciding
+pub mod Pairs
 pub mod inner

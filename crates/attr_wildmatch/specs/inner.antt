@@ -7,4 +7,5 @@ pub mod Decided
 pub mod FirstBytes
 pub mod Left
 pub mod RowIndexes
+pub mod SoundTokens
 pub mod Stretches

@@ -3,6 +3,7 @@
 
 mod bracket;
 pub mod case;
+pub mod pairs;
 pub mod slashes;
 pub mod token;
 pub mod wildmatch;

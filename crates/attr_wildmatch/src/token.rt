@@ -1,15 +1,17 @@
 //! The tokens of a pattern's text, by the gitignore page.
 
-ghost use Rattle.std.specs.Prelude.{◌≡◌, ◌+◌, ◌≤◌, ◌<◌, ◌^◌, ◌&&◌, ◌↔◌, List, IfSome, IfOk, IsTrue, Some, true, length, option_map};
+ghost use Rattle.std.specs.Prelude.{◌≡◌, ◌+◌, ◌≤◌, ◌<◌, ◌^◌, ◌&&◌, ◌↔◌, ℕ, List, IfSome, IfOk, IsTrue, Some, true, length, option_map};
 ghost use Rattle.attr_wildmatch.specs.Tokens.{Token as Meaning, after_stars, stars_at, bracket_at, escape_at, token_at, token_ends_in_slash as meaning_ends_in_slash, tokens as meaning_of_text};
 ghost use Rattle.attr_wildmatch.specs.Spelling.{AreTokens};
 ghost use Rattle.attr_wildmatch.specs.Deciding.{takes_byte};
 ghost use Rattle.attr_wildmatch.specs.inner.RowIndexes.{may_be_nothing, is_dirs, continues_with, ends_at};
 ghost use Rattle.attr_wildmatch.specs.TokenList.{token_of, tokens_of};
 ghost use Rattle.attr_wildmatch.specs.inner.Bordered.{is_bordered};
+ghost use Rattle.attr_wildmatch.specs.Pairs.{holds, needs_pair};
 
 use crate::bracket::{self, MemberSet};
 use crate::case::Case;
+use crate::pairs::Pairs;
 use std::alloc::{AllocError, Global};
 use std::marker::Model;
 
@@ -171,19 +173,22 @@ fn read_token(
 #[derive(Debug, Drop)]
 pub struct Tokens {
     list: Vec<Token>,
+    // The kinds of pairs that they need.
+    pairs: Pairs,
 }
 
 impl Model for Tokens {
-    ghost use Rattle.std.specs.Prelude.{◌≡◌, List, true};
+    ghost use Rattle.std.specs.Prelude.{List};
     ghost use Rattle.attr_wildmatch.specs.Tokens.{Token as Meaning};
     ghost use Rattle.attr_wildmatch.specs.TokenList.{tokens_of};
-    ghost use Rattle.attr_wildmatch.specs.inner.Bordered.{is_bordered};
 
     ghost Value = { List Meaning };
 
     ghost view = { λ t. tokens_of t.list.items };
 
-    ghost invariant = { λ t. is_bordered true (tokens_of t.list.items) ≡ true };
+    ghost use Rattle.attr_wildmatch.specs.inner.SoundTokens.{AreSoundTokens};
+
+    ghost invariant = { λ t. AreSoundTokens (tokens_of t.list.items) t.pairs };
 }
 
 impl Tokens {
@@ -211,7 +216,8 @@ impl Tokens {
 
         // A bracket, an escape or a directory star is one token of several bytes.
         list.shrink_to_fit();
-        Ok(Some(Tokens { list }))
+        let pairs = Pairs::of_tokens(&list);
+        Ok(Some(Tokens { list, pairs }))
     }
 
     /// How many tokens there are.
@@ -236,6 +242,13 @@ impl Tokens {
         ensures { result ≡ length self.now + 1 }
     {
         self.len() + 1
+    }
+
+    /// The kinds of pairs that the tokens need.
+    pub fn pairs(&self) -> Pairs
+        ensures { (k : ℕ) → holds result k ≡ needs_pair k self.now }
+    {
+        self.pairs
     }
 
     pub(crate) fn as_slice(&self) -> &[Token]

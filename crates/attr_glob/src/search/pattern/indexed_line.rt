@@ -1,12 +1,14 @@
 //! A line of an index: its pattern, with what is made of it once.
 
-ghost use Rattle.std.specs.Prelude.{◌≡◌, IfOk};
+ghost use Rattle.std.specs.Prelude.{◌≡◌, ◌↔◌, ℕ, true, IfOk, IsTrue, MatchOption};
 ghost use Rattle.std.specs.Option.{option_copied};
+ghost use Rattle.attr_wildmatch.specs.Pairs.{holds, needs_pair};
 ghost use Rattle.attr_glob.specs.KeptTokens.{kept_tokens};
 ghost use Rattle.attr_glob.specs.Views.{pattern_view};
 ghost use Rattle.attr_glob.specs.inner.LineTokens.{unboxed};
 
 use crate::Pattern;
+use crate::pairs::Pairs;
 use crate::search::pattern::Mapping;
 use crate::token::Tokens;
 use std::alloc::{AllocError, Global};
@@ -44,6 +46,17 @@ impl IndexedLine {
             number: mapping.sequence_number,
             tokens,
         })
+    }
+
+    /// Whether a text may match that has pairs of these kinds alone. It has to have those that the tokens need.
+    pub fn may_match(&self, pairs: Pairs) -> bool
+        ensures { MatchOption (kept_tokens (pattern_view self.now.pattern)) (IsTrue result)
+            (λ ts. IsTrue result ↔ ((k : ℕ) → needs_pair k ts ≡ true → holds pairs k ≡ true)) }
+    {
+        match self.tokens() {
+            Some(tokens) => tokens.pairs().are_among(pairs),
+            None => true,
+        }
     }
 
     /// The tokens of the pattern, where a match may need them.

@@ -4,11 +4,23 @@ use Rattle.attr_glob.specs.Paths.{matched_part}
 use Rattle.attr_glob.specs.Views.{pattern_view}
 use Rattle.attr_glob.specs.declared.search.pattern.index.Index.{Index}
 use Rattle.attr_search.proofs.IndexedListLemmas.{entry_pattern}
-use Rattle.attr_search.proofs.EntryAtLemmas.{matched_answer}
+use Rattle.attr_search.proofs.EntryAtLemmas.{lacking, matched_answer}
 use Rattle.attr_search.proofs.indexed_list.IndexedList.matches.Goals as goal
+use Rattle.attr_search.proofs.indexed_list.IndexedList.matches.Goals.{then-not-takes_kind-via-then-not-takes_kind}
+use Rattle.attr_search.proofs.indexed_list.IndexedList.matches.Goals.{then-not-takes_kind-via-else-not-takes_kind+then-not-may_match}
 
 pub returns-then-not-takes_kind : goal.returns-then-not-takes_kind
-returns-then-not-takes_kind c = grind (arith, entry_pattern)
+returns-then-not-takes_kind c =
+    let list = c.args.self.now in
+    let line = c.index-line.result.now in
+    let here = entry_pattern list.index.value.lines.items list.list.patterns.items c.args.index line list.lines c.requires.index
+    (c.index-line.ensures ∙ ap (λ (x : Index). get_or x.lines.items c.args.index line) c.deref.ensures) in
+    elim c.then-not-takes_kind.branch [
+      | then-not-takes_kind-via-then-not-takes_kind w ↦ grind (arith, entry_pattern)
+      | then-not-takes_kind-via-else-not-takes_kind+then-not-may_match w ↦
+          lacking list.list.patterns.items c.args.index (pattern_view line.pattern) c.args.rest.case (bstr_bytes c.args.rest.path)
+          c.args.rest.is_dir c.args.rest.pairs w.may_match.result here c.args.rest.paired w.may_match.ensures w.if-not-may_match.true
+    ]
 
 pub returns : goal.returns
 returns c =
