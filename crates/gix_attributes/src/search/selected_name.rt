@@ -1,7 +1,8 @@
 //! A name that an outcome looks for.
 
-ghost use Rattle.std.specs.Prelude.{◌≡◌, IfOk, codes};
+ghost use Rattle.std.specs.Prelude.{◌≡◌, IfOk, None, Some, codes, if◌then◌else◌};
 ghost use Rattle.std.specs.Rc.{rc_str_bytes};
+ghost use Rattle.attr_text.specs.Names.{is_valid_name};
 ghost use Rattle.attr_text.specs.TextViews.{name_text};
 ghost use Rattle.gix_attributes.specs.Contents.{reported_name};
 
@@ -15,15 +16,16 @@ use std::rc::RcStr;
 pub(crate) struct SelectedName {
     /// The name as it was selected. It need not be a valid name.
     pub name: RcStr,
-    /// The name by which it is reported if no line assigns it: `invalid` if it is no valid name.
-    pub reported: Name,
+    /// The same text as a name, none if it is no valid name.
+    pub valid: Option<Name>,
     /// The number that the collection had for it.
     pub number: Option<usize>,
-    ghost named: { reported ≡ reported_name (rc_str_bytes name) },
+    ghost named: { valid ≡ (if is_valid_name (rc_str_bytes name)
+        then Some (rc_str_bytes name) else None) },
 }
 
 impl SelectedName {
-    /// A text that is selected, with its number. The name that is reported is made once, and not for each path.
+    /// A text that is selected, with its number. Whether it is a valid name is found once, and not for each path.
     ///
     /// # Errors
     ///
@@ -36,9 +38,21 @@ impl SelectedName {
         ensures name { IfOk result (λ selected. rc_str_bytes selected.name ≡ text.now) }
         ensures number { IfOk result (λ selected. selected.number ≡ number) }
     {
+        SelectedName::of(RcStr::from_str(alloc, text)?, number)
+    }
+
+    fn of(name: RcStr, number: Option<usize>) -> Result<SelectedName, AllocError>
+        ensures name { IfOk result (λ selected.
+            rc_str_bytes selected.name ≡ rc_str_bytes name) }
+        ensures number { IfOk result (λ selected. selected.number ≡ number) }
+    {
+        let valid = match NameRef::try_from(BStr::from(name.as_str())) {
+            Ok(_) => Some(Name::of(name.clone()?)),
+            Err(_) => None,
+        };
         Ok(SelectedName {
-            name: RcStr::from_str(alloc, text)?,
-            reported: reported_name(alloc, text)?,
+            name,
+            valid,
             number,
         })
     }
@@ -48,39 +62,22 @@ impl SelectedName {
     /// # Errors
     ///
     /// If there are `usize::MAX` copies of the name.
-    pub(crate) fn numbered(
-        &self,
-        alloc: Global,
-        number: Option<usize>,
-    ) -> Result<SelectedName, AllocError>
+    pub(crate) fn numbered(&self, number: Option<usize>) -> Result<SelectedName, AllocError>
         ensures name { IfOk result (λ selected.
             rc_str_bytes selected.name ≡ rc_str_bytes self.now.name) }
         ensures number { IfOk result (λ selected. selected.number ≡ number) }
     {
-        let reported = self.reported.clone(alloc)?;
-        let name = self.name.clone()?;
-        Ok(SelectedName {
-            name,
-            reported,
-            number,
-        })
+        SelectedName::of(self.name.clone()?, number)
     }
 
-    /// The name by which it is reported if no line assigns it.
+    /// The name by which it is reported if no line assigns it: `invalid` if it is no valid name.
     pub(crate) fn reported(&self) -> NameRef<'_>
         ensures { name_text result ≡ reported_name (rc_str_bytes self.now.name) }
     {
-        self.reported.as_ref()
-    }
-}
-
-// The name that is reported for a selected text.
-fn reported_name(alloc: Global, text: &str) -> Result<Name, AllocError>
-    ensures { IfOk result (λ name. name ≡ reported_name text.now) }
-{
-    match NameRef::try_from(BStr::from(text)) {
-        Ok(name) => name.to_owned(alloc),
-        Err(_) => invalid_name().to_owned(alloc),
+        match &self.valid {
+            Some(name) => name.as_ref(),
+            None => invalid_name(),
+        }
     }
 }
 
