@@ -46,6 +46,9 @@ impl HashedRows {
         ensures empty { IfOk result (λ hashed. hashed.links.items ≡ []) }
         ensures bounded { IfOk result (λ hashed.
             AreBounded hashed.heads.items hashed.links.items) }
+        ensures buckets { IfOk result (λ hashed. length hashed.heads.items ≡ count) }
+        ensures longest { IfOk result (λ hashed. (hashed.longest_name ≡ 0)
+            × (hashed.longest_extension ≡ 0) × (hashed.longest_path ≡ 0)) }
     {
         let mut heads = Vec::new(alloc);
         heads.resize(count, 0)?;

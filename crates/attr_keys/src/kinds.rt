@@ -1,6 +1,6 @@
 //! Lines by the kinds of their keys.
 
-ghost use Rattle.std.specs.Prelude.{◌≡◌, ◌↔◌, ◌<◌, [], ◌∷◌, ◌++◌, IfOk, List, OnOk, is_some, true};
+ghost use Rattle.std.specs.Prelude.{◌≡◌, ◌↔◌, ◌<◌, [], ◌∷◌, ◌++◌, IfOk, List, OnOk, is_some, length, true};
 ghost use Rattle.std.specs.Bool.{OnFalse};
 ghost use Rattle.attr_keys.specs.declared.key.Subject.{Subject};
 ghost use Rattle.attr_keys.specs.inner.Cases.{in_case};
@@ -86,6 +86,7 @@ impl KindRows {
     pub fn new(alloc: Global, count: usize, fold: bool) -> Result<KindRows, AllocError>
         ensures kinds { IfOk result (AreKindRows []) }
         ensures fold { IfOk result (λ rows. rows.fold ≡ fold) }
+        ensures buckets { IfOk result (λ rows. length rows.hashed.heads.items ≡ count) }
     {
         Ok(KindRows {
             fold,
