@@ -1,18 +1,18 @@
 -- Parts of a search, with their counts.
-use Rattle.std.proofs.Common.{◌≡◌, ℕ, zero, suc, ◌+◌, ◌-◌, ◌^◌, ◌≤◌, List, [], ◌∷◌, ◌++◌, length, Option, Some, min, refl, sym, arith, true, false}
+use Rattle.std.proofs.Common.{◌≡◌, ℕ, zero, suc, ◌+◌, ◌-◌, ◌^◌, ◌≤◌, List, [], ◌∷◌, ◌++◌, length, Option, refl, sym, arith, true, false}
 use Rattle.std.specs.Prelude.{is_some, sum_by, All}
 use Rattle.std.proofs.lemmas.Grind.{common_steps}
 use Rattle.std.proofs.lemmas.Bool.{cases_eq, cases_Bool}
-use Rattle.std.proofs.lemmas.List.{length-append, append_assoc, append-nil}
+use Rattle.std.proofs.lemmas.List.{length-append, append_assoc}
 use Rattle.std.proofs.lemmas.List.Elements.{All-head, All-tail}
 use Rattle.std.proofs.lemmas.List.Sums.{sum_by-cons}
 use Rattle.attr_table.specs.Setting.{Item, Origin, Setting, body_of}
 use Rattle.attr_table.specs.Table.{Slots}
 use Rattle.attr_table.specs.Cut.{is_done}
 use Rattle.attr_table.specs.Work.{work_of, newly_filled}
-use Rattle.attr_table.specs.shared.Walk.{Task, Walks, ends, stops, skips, fills, Searches, tasks_in, tasks_of, backwards, expands, opened, fill}
-use Rattle.attr_table.specs.shared.Walk.{free_items, left_in}
-use Rattle.attr_table.proofs.Walked.{length-tasks_in, fill_other, left_in-fill, length-opened, then_walks, walks_past}
+use Rattle.attr_table.specs.shared.Walk.{Task, ends, stops, skips, fills, Searches, tasks_in, tasks_of, backwards, opened, fill}
+use Rattle.attr_table.specs.shared.Walk.{left_in}
+use Rattle.attr_table.proofs.Walked.{length-tasks_in, fill_other, left_in-fill, length-opened, then_walks}
 
 -- the greatest u128
 abbrev pub top : ℕ
@@ -37,14 +37,10 @@ newly_none : (before after : Slots) (a n : ℕ) → n ≤ a → ((b : ℕ) → (
 newly_none before after a zero le same = refl
 newly_none before after a (suc n) le same = grind (arith, newly_none before after a n)
 
-newly_one : (before after : Slots) (a n : ℕ) → ((b : ℕ) → (b ≡ a → ⊥) → after b ≡ before b) →
+pub newly_one : (before after : Slots) (a n : ℕ) → ((b : ℕ) → (b ≡ a → ⊥) → after b ≡ before b) →
     newly_filled before after n ≤ 1
 newly_one before after a zero same = omega arith
 newly_one before after a (suc n) same = grind (arith, newly_none, cases_eq, newly_one before after a n same)
-
-pub length-free : (slots : Slots) (items : List Item) → length (free_items slots items) ≤ length items
-length-free slots [] = omega arith
-length-free slots (i ∷ items) = grind (arith, cases_Bool, length-free slots items)
 
 -- a part that takes nothing
 pub nothing_taken : (bodies : List (List Item)) (wanted : List ℕ) (slots : Slots) (taken : ℕ) →
@@ -95,77 +91,10 @@ fills_task bodies wanted t ts before next after a b is undone empty p =
           grind (arith, newly_filled-through before (fill bodies t before) after n, fill_other, one n);
     }
 
--- a task is taken whose slot is filled
-pub taken_skip : (bodies : List (List Item)) (wanted : List ℕ) (t : Task) (ts : List Task) (before after : Slots) (a b c : ℕ) →
-    b ≡ min (a + 1) top → is_some (before t.item.attribute) ≡ true →
-    Searches bodies wanted ts before after b c → Searches bodies wanted (t ∷ ts) before after a c
-taken_skip bodies wanted t ts before after a b c counted filled p = grind (arith, skips)
-
--- a task fills its slot, and the free items of its body come next
-pub taken_fill : (bodies : List (List Item)) (wanted : List ℕ) (t : Task) (on_stack ts : List Task) (before after : Slots) (a b c : ℕ) →
-    b ≡ min (a + 1) top → is_done wanted before ≡ false → is_some (before t.item.attribute) ≡ false →
-    length on_stack ≤ length (body_of bodies t.item.attribute) →
-    (Walks bodies (is_done wanted) (on_stack ++ ts) (fill bodies t before) after →
-    Walks bodies (is_done wanted) (opened bodies t ++ ts) (fill bodies t before) after) →
-    Searches bodies wanted (on_stack ++ ts) (fill bodies t before) after b c →
-    Searches bodies wanted (t ∷ ts) before after a c
-taken_fill bodies wanted t on_stack ts before after a b c counted undone empty short all p =
-    let one = newly_one before (fill bodies t before) t.item.attribute in
-    record {
-      walks = fills undone empty (all p.walks);
-      most = omega (arith, length-append on_stack ts, left_in-fill bodies t before empty, p.most);
-      least = λ n. grind (arith, newly_filled-through before (fill bodies t before) after n, fill_other, one n);
-    }
-
--- the same for a task that does not set its attribute, and for one that does
-pub taken_closed : (bodies : List (List Item)) (wanted : List ℕ) (t : Task) (ts : List Task) (before next after : Slots) (a b c : ℕ) →
-    next ≡ fill bodies t before → expands t.item.state ≡ false → is_some (before t.item.attribute) ≡ false →
-    is_done wanted before ≡ false → b ≡ min (a + 1) top →
-    Searches bodies wanted ts next after b c → Searches bodies wanted (t ∷ ts) before after a c
-taken_closed bodies wanted t ts before next after a b c is closed empty undone counted p =
-    grind (arith, taken_fill bodies wanted t [] ts before after a b c)
-
-pub taken_open : (bodies : List (List Item)) (wanted : List ℕ) (t : Task) (body : List Item) (ts us : List Task) (before next after : Slots)
-    (a b c : ℕ) →
-    next ≡ fill bodies t before → expands t.item.state ≡ true → is_some (before t.item.attribute) ≡ false →
-    body_of bodies t.item.attribute ≡ body →
-    us ≡ tasks_in t.origin (Some t.item.attribute) (free_items next body) ++ ts →
-    is_done wanted before ≡ false → b ≡ min (a + 1) top →
-    Searches bodies wanted us next after b c → Searches bodies wanted (t ∷ ts) before after a c
-taken_open bodies wanted t body ts us before next after a b c is set empty body_is on_stack undone counted p =
-    let free = free_items (fill bodies t before) body in
-    taken_fill bodies wanted t (tasks_in t.origin (Some t.item.attribute) free) ts before after a b c
-    counted undone empty (grind (arith, length-tasks_in, length-free))
-    (λ w. grind (arith, walks_past))
-    (rw (on_stack, is) at p)
-
 pub left_in-less : (bodies : List (List Item)) (t : Task) (before next : Slots) → next ≡ fill bodies t before →
     is_some (before t.item.attribute) ≡ false →
     left_in bodies next + length (body_of bodies t.item.attribute) ≡ left_in bodies before
 left_in-less bodies t before next is empty = let e = left_in-fill bodies t before empty in rw is (sym e)
-
-pub left_in-open : (bodies : List (List Item)) (t : Task) (body : List Item) (before next : Slots) (m n : ℕ) →
-    next ≡ fill bodies t before → is_some (before t.item.attribute) ≡ false → body_of bodies t.item.attribute ≡ body →
-    n ≤ m + length body → n + left_in bodies next ≤ m + left_in bodies before
-left_in-open bodies t body before next m n is empty body_is le = grind (arith, left_in-less)
-
--- items of which none is free are passed over
-pub row_filled : (bodies : List (List Item)) (wanted : List ℕ) (origin : Origin) (cause : Option ℕ) (items : List Item) (slots : Slots) (taken : ℕ) →
-    free_items slots items ≡ [] → Searches bodies wanted (tasks_in origin cause items) slots slots taken taken
-row_filled bodies wanted origin cause items slots taken none =
-    let past = walks_past bodies (is_done wanted) slots slots origin cause items [] (rw none ends) in
-    grind (arith, append-nil, newly_filled-same)
-
--- the free ones are processed
-pub row_searched : (bodies : List (List Item)) (wanted : List ℕ) (origin : Origin) (cause : Option ℕ) (items : List Item) (ts : List Task)
-    (before after : Slots) (a b : ℕ) →
-    ts ≡ tasks_in origin cause (free_items before items) → Searches bodies wanted ts before after a b →
-    Searches bodies wanted (tasks_in origin cause items) before after a b
-row_searched bodies wanted origin cause items ts before after a b on_stack p =
-    let walks = p.walks in
-    let free : Walks bodies (is_done wanted) (tasks_in origin cause (free_items before items) ++ []) before after = rw append-nil
-    (rw on_stack at walks) in
-    grind (arith, walks_past, length-tasks_in, length-free, append-nil)
 
 length-backwards : {X Y : Type 0} (f : X → List Y) (size : X → ℕ) (xs : List X) → ((x : X) → length (f x) ≡ size x) →
     length (backwards f xs) ≡ sum_by size xs

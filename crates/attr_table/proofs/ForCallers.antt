@@ -1,11 +1,9 @@
 -- Lemmas for the crates above, beside the contracts and the laws.
 
 -- Tasks in the order of a search, from the last element of a list. `backwards-append`: of two lists the second comes first.
--- `length-tasks_in`: there is a task for each item. `tasks_push`, `tasks_pass`: an item adds its task to the free ones if its
--- attribute has no answer, and none if it has one. `length-free`: there are no more free items than items.
+-- `length-tasks_in`: there is a task for each item.
 pub use Rattle.attr_table.proofs.Listed.{backwards-append}
-pub use Rattle.attr_table.proofs.Walked.{length-tasks_in, tasks_push, tasks_pass}
-pub use Rattle.attr_table.proofs.Counted.{length-free}
+pub use Rattle.attr_table.proofs.Walked.{length-tasks_in}
 -- The order of paths of occurrences. `first_beginning`: a path comes before those that go on from it. `first_trans`: of three paths in
 -- order the first comes before the last.
 pub use Rattle.attr_table.proofs.Order.{first_beginning, first_trans}
@@ -13,16 +11,14 @@ pub use Rattle.attr_table.proofs.Order.{first_beginning, first_trans}
 -- `then_walks`: one walk after another is a walk over the tasks of both.
 pub use Rattle.attr_table.proofs.Walked.{fill_keeps, fill_other, then_walks}
 -- Parts of a search, with their counts. `nothing_taken`: a search without tasks changes nothing. `done_taken`: neither does one whose
--- wanted attributes have answers. `then_searches`: one part after another. `taken_skip`: a task whose slot is filled.
--- `taken_closed`, `taken_open`: a task that fills its slot, and sets no macro, or sets one. `row_filled`: items none of which is free.
--- `row_searched`: the free items count for all items. `passes_items`: items whose slots are filled are passed over. `fills_task`: a task
--- fills its slot, and the items of the body that it opens come next.
-pub use Rattle.attr_table.proofs.Counted.{nothing_taken, done_taken, then_searches, taken_skip, taken_closed, taken_open, row_filled, row_searched}
-pub use Rattle.attr_table.proofs.Counted.{passes_items, fills_task}
--- Counts. `top`: the greatest count. `left_in-less`: a task that fills its slot takes its body off the items that are left.
--- `left_in-open`: with the free items of the body on the stack there is no more work than before. `taken_most`: a search takes no
--- more than the work of its setting. `taken_least`: it takes no less than the slots that it fills.
-pub use Rattle.attr_table.proofs.Counted.{top, left_in-less, left_in-open, taken_most, taken_least}
+-- wanted attributes have answers. `then_searches`: one part after another. `passes_items`: items whose slots are filled are passed over.
+-- `fills_task`: a task fills its slot, and the items of the body that it opens come next.
+pub use Rattle.attr_table.proofs.Counted.{nothing_taken, done_taken, then_searches, passes_items, fills_task}
+-- Counts. `top`: the greatest count. `left_in-fill`, `left_in-less`: a task that fills its slot takes its body off the items that are
+-- left. `newly_filled-same`, `newly_filled-through`, `newly_one`: the slots that are filled in no step, in two, and by one task.
+-- `taken_most`: a search takes no more than the work of its setting. `taken_least`: it takes no less than the slots that it fills.
+pub use Rattle.attr_table.proofs.Walked.{left_in-fill}
+pub use Rattle.attr_table.proofs.Counted.{top, left_in-less, newly_filled-same, newly_filled-through, newly_one, taken_most, taken_least}
 -- Tables. `OneTable-of`: there is exactly one stable table. `entry_is`: an entry of a stable table is the earliest of its live
 -- occurrences. `some_or_none`, `none_value`: an entry is there or not.
 pub use Rattle.attr_table.proofs.Ends.{OneTable-of}

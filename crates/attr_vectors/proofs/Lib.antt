@@ -1,2 +1,3 @@
 mod Backwards
+mod FreeTasks
 mod Seen

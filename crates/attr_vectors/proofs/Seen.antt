@@ -15,17 +15,17 @@ use Rattle.std.proofs.lemmas.List.Folds.{list_all_more, list_all_at}
 use Rattle.attr_table.specs.Setting.{Answer, Item, Origin, body_of}
 use Rattle.attr_table.specs.Table.{Slots, slots_in}
 use Rattle.attr_table.specs.Cut.{is_done, is_filled, answer_of, no_answers}
-use Rattle.attr_table.specs.shared.Walk.{Task, tasks_in, line_tasks, free_items, fill, Searches}
+use Rattle.attr_table.specs.shared.Walk.{Task, tasks_in, line_tasks, fill, Searches}
 use Rattle.attr_vectors.specs.inner.Plain.{plain_answer, plain_item, plain_items, plain_origin, plain_answers, plain_bodies, plain_task, plain_tasks}
-use Rattle.attr_vectors.specs.inner.Plain.{plain_line, TasksHaveSlots, KeepsInput}
+use Rattle.attr_vectors.specs.inner.Plain.{free_items, plain_line, TasksHaveSlots, KeepsInput}
 use Rattle.attr_vectors.specs.declared.plain.Row.{Row}
 use Rattle.attr_vectors.specs.declared.plain.Origin.{Origin as PlainOrigin}
 use Rattle.attr_vectors.specs.declared.plain.Item.{Item as PlainItem}
 use Rattle.attr_vectors.specs.declared.plain.Answer.{Answer as PlainAnswer}
 use Rattle.attr_vectors.specs.declared.plain.Task.{Task as PlainTask}
 use Rattle.attr_vectors.specs.declared.plain.SearchState.{SearchState}
-use Rattle.attr_table.proofs.ForCallers.{backwards-append, length-tasks_in, tasks_push, tasks_pass, length-free, nothing_taken}
-use Rattle.attr_table.proofs.ForCallers.{row_filled, row_searched}
+use Rattle.attr_table.proofs.ForCallers.{backwards-append, length-tasks_in, nothing_taken}
+use Rattle.attr_vectors.proofs.FreeTasks.{tasks_push, tasks_pass, length-free, row_filled, row_searched}
 
 pub plain_answers-at : (slots : List (Option PlainAnswer)) (a : ℕ) →
     plain_answers slots a ≡ option_map plain_answer (get_or slots a None)

@@ -8,8 +8,8 @@ ghost use Rattle.attr_table.specs.Cut;
 ghost use Rattle.attr_table.specs.Cut.{IsSearched, ExtendsCuts, no_answers};
 ghost use Rattle.attr_table.specs.Work.{work_of, newly_filled};
 ghost use Rattle.attr_table.specs.shared.Walk;
-ghost use Rattle.attr_table.specs.shared.Walk.{tasks_in, line_tasks, list_tasks, tasks_of, free_items, left_in, Searches};
-ghost use Rattle.attr_vectors.specs.inner.Plain.{PlainHaveSlots, IsInRange, RowsHaveSlots, TasksHaveSlots, IsSearchState, ProcessesTask, SearchesTasks, plain_answers, plain_bodies, plain_items, plain_line, plain_lines, plain_lists, plain_origin, plain_setting, plain_state, plain_task, plain_tasks};
+ghost use Rattle.attr_table.specs.shared.Walk.{tasks_in, line_tasks, list_tasks, tasks_of, left_in, Searches};
+ghost use Rattle.attr_vectors.specs.inner.Plain.{PlainHaveSlots, IsInRange, RowsHaveSlots, TasksHaveSlots, IsSearchState, ProcessesTask, SearchesTasks, free_items, plain_answers, plain_bodies, plain_items, plain_line, plain_lines, plain_lists, plain_origin, plain_setting, plain_state, plain_task, plain_tasks};
 
 use std::alloc::{AllocError, Global};
 

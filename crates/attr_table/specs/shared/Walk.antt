@@ -1,6 +1,6 @@
 -- A walk that fills slots (own): the steps of a search. The laws relate its slots to the cut of the stable table.
 use Rattle.std.specs.Prelude.{◌≡◌, ℕ, suc, ◌+◌, ◌-◌, ◌^◌, ◌≤◌, min, List, [], ◌∷◌, ◌++◌, Bool, true, false, Option, Some, None}
-use Rattle.std.specs.Prelude.{is_some, is_none, filter, length, ◌==◌, if◌then◌else◌}
+use Rattle.std.specs.Prelude.{is_some, length, ◌==◌, if◌then◌else◌}
 use Rattle.attr_table.specs.Setting.{State, Set, Unset, Value, Unspecified, Item, Origin, Line, body_of}
 use Rattle.attr_table.specs.Table.{Slots}
 use Rattle.attr_table.specs.Cut.{answer_of, is_done}
@@ -68,10 +68,6 @@ abbrev pub left_in : List (List Item) → Slots → ℕ
 left_in [] slots = 0
 left_in (body ∷ bodies) slots =
     (if is_some (slots 0) then 0 else length body) + left_in bodies (λ a. slots (suc a))
-
--- the items of attributes with no answer
-abbrev pub free_items : Slots → List Item → List Item
-free_items slots items = filter (λ i. is_none (slots i.attribute)) items
 
 -- the greatest count: a `u128`
 abbrev pub most_taken : ℕ

@@ -1,6 +1,6 @@
 -- Views of what the plain search works on, and the steps of its functions (own).
 use Rattle.std.specs.Prelude.{◌≡◌, ℕ, ◌+◌, ◌<◌, ◌≤◌, false, min, length, List, [], ◌∷◌, Option, map, option_map, All}
-use Rattle.std.specs.Prelude.{if◌then◌else◌}
+use Rattle.std.specs.Prelude.{filter, if◌then◌else◌, is_none}
 use Rattle.std.specs.Borrow.{Bor}
 use Rattle.attr_table.specs.Setting.{State, Set, Unset, Value, Unspecified, Item, Origin, Line, Setting, Answer}
 use Rattle.attr_table.specs.Table.{Slots, slots_in}
@@ -15,6 +15,10 @@ use Rattle.attr_vectors.specs.declared.plain.Answer.{Answer as PlainAnswer}
 use Rattle.attr_vectors.specs.declared.plain.Row.{Row}
 use Rattle.attr_vectors.specs.declared.plain.Task.{Task as PlainTask}
 use Rattle.attr_vectors.specs.declared.plain.SearchState.{SearchState}
+
+-- the items of attributes with no answer
+abbrev pub free_items : Slots → List Item → List Item
+free_items slots items = filter (λ i. is_none (slots i.attribute)) items
 
 -- views of a state, an item, an origin and an answer
 abbrev pub plain_state : PlainState → State

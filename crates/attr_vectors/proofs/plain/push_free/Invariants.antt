@@ -1,6 +1,6 @@
 use Rattle.std.proofs.Common.{◌≡◌, ℕ, ◌++◌, take}
-use Rattle.attr_table.specs.shared.Walk.{tasks_in, free_items}
-use Rattle.attr_vectors.specs.inner.Plain.{PlainHaveSlots, TasksHaveSlots, plain_answers, plain_items, plain_origin, plain_tasks}
+use Rattle.attr_table.specs.shared.Walk.{tasks_in}
+use Rattle.attr_vectors.specs.inner.Plain.{PlainHaveSlots, TasksHaveSlots, free_items, plain_answers, plain_items, plain_origin, plain_tasks}
 use Rattle.attr_vectors.proofs.plain.push_free.Given as goal
 
 abbrev pub invariant-loop-item : goal.invariant-loop-item

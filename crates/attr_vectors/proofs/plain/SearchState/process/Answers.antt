@@ -1,6 +1,7 @@
 use Rattle.std.proofs.Common.{◌∙◌, refl, sym, subst, length, arith, Some}
 use Rattle.attr_vectors.specs.inner.Plain.{IsSearchState, plain_answers, plain_bodies, plain_origin, plain_task, plain_tasks}
-use Rattle.attr_table.proofs.ForCallers.{taken_skip, taken_closed, taken_open, left_in-less, left_in-open}
+use Rattle.attr_table.proofs.ForCallers.{left_in-less}
+use Rattle.attr_vectors.proofs.FreeTasks.{taken_skip, taken_closed, taken_open, left_in-open}
 use Rattle.attr_vectors.proofs.Seen.{filled_at, body_of-seen, length-pushed}
 use Rattle.attr_vectors.proofs.plain.SearchState.process.Goals as goal
 
