@@ -8,7 +8,7 @@ ghost use Rattle.gix_attributes.specs.Contents.{reported_name};
 
 use attr_text::{Name, NameRef};
 use bstr::BStr;
-use std::alloc::{AllocError, Global};
+use std::alloc::AllocError;
 use std::rc::RcStr;
 
 /// A selected name, with its number if the collection has it.
@@ -29,19 +29,8 @@ impl SelectedName {
     ///
     /// # Errors
     ///
-    /// If memory runs out.
-    pub(crate) fn new(
-        alloc: Global,
-        text: &str,
-        number: Option<usize>,
-    ) -> Result<SelectedName, AllocError>
-        ensures name { IfOk result (λ selected. rc_str_bytes selected.name ≡ text.now) }
-        ensures number { IfOk result (λ selected. selected.number ≡ number) }
-    {
-        SelectedName::of(RcStr::from_str(alloc, text)?, number)
-    }
-
-    fn of(name: RcStr, number: Option<usize>) -> Result<SelectedName, AllocError>
+    /// If there are `usize::MAX` copies of the text.
+    pub(crate) fn new(name: RcStr, number: Option<usize>) -> Result<SelectedName, AllocError>
         ensures name { IfOk result (λ selected.
             rc_str_bytes selected.name ≡ rc_str_bytes name) }
         ensures number { IfOk result (λ selected. selected.number ≡ number) }
@@ -67,7 +56,7 @@ impl SelectedName {
             rc_str_bytes selected.name ≡ rc_str_bytes self.now.name) }
         ensures number { IfOk result (λ selected. selected.number ≡ number) }
     {
-        SelectedName::of(self.name.clone()?, number)
+        SelectedName::new(self.name.clone()?, number)
     }
 
     /// The name by which it is reported if no line assigns it: `invalid` if it is no valid name.

@@ -16,7 +16,7 @@ use attr_search::bodies::{BodyChange, body_at};
 use attr_search::wanted::WantedFlags;
 use std::alloc::{AllocError, Global};
 use std::collections::BTreeSet;
-use std::rc::Rc;
+use std::rc::{Rc, RcStr};
 
 /// Looks up the numbers of names.
 pub(crate) fn look_up(
@@ -30,7 +30,7 @@ pub(crate) fn look_up(
     let mut selected = Vec::new(alloc);
     for name in names {
         let number = collection.number_of(name);
-        selected.push(SelectedName::new(alloc, name, number)?)?;
+        selected.push(SelectedName::new(RcStr::from_str(alloc, name)?, number)?)?;
     }
     Ok(selected)
 }
