@@ -20,7 +20,6 @@ use Rattle.attr_search.specs.Slots.{table_item, table_items, table_state}
 use Rattle.attr_search.specs.SearchContents.{SearchContents}
 use Rattle.attr_search.specs.shared.SlotContents.{open_slots}
 use Rattle.attr_search.proofs.OpenLemmas.{open_needed}
-use Rattle.attr_search.specs.Settings.{HaveSlots}
 use Rattle.attr_lists.specs.Numbers.{AreNamed}
 use Rattle.attr_search.specs.declared.matching_line.MatchingLine.{MatchingLine}
 use Rattle.attr_search.specs.inner.Filling.{AtLine, Fills, FillsBy, FillsItem, FillsTo, LeadsTo, own_item, steps_left, tasks_left}
@@ -38,13 +37,6 @@ beside : (P : List TrackedAssignment → Type 0) (line : List TrackedAssignment)
     P [] → P line → All P bs → P (items_beside line bs cause)
 beside P line bs None none h b = h
 beside P line bs (Some a) none h b = grind (arith, get_or_past, cases_lt)
-
--- the items at hand have slots
-pub have_slots : {line : MatchingLine} {state : SearchContents} {at : ItemIndex} {stack : List ItemIndex} →
-    AtLine line state at stack → HaveSlots (length state.answers) (items_beside line.items.now state.bodies at.cause)
-have_slots {line} {state} {at} held =
-    beside (HaveSlots (length state.answers)) line.items.now state.bodies at.cause (λ k d lt. absurd (omega arith)) held.in_line
-    held.bodies.in_bodies
 
 is_filled-table : (items : List TrackedAssignment) → not (length items == 0) ≡ is_filled (table_items items)
 is_filled-table [] = refl

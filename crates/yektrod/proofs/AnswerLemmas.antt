@@ -1,7 +1,7 @@
 -- Answers by their numbers.
 use Rattle.std.proofs.lemmas.Bool.Decides.{nat_tests}
 use Rattle.std.proofs.Common.{◌≡◌, ◌≤◌, ◌⊎◌, inl, inr, ℕ, ◌+◌, ◌<◌, List, [], ◌++◌, length, map, take, get_or, Option}
-use Rattle.std.proofs.Common.{Some, None, sym, ap, ◌∙◌, arith, unwrap_or, option_map, subst, Bool, true, ℤ, MatchOption, is_some, if◌then◌else◌}
+use Rattle.std.proofs.Common.{Some, None, sym, ap, ◌∙◌, arith, unwrap_or, option_map, subst, Bool, true, MatchOption, is_some, if◌then◌else◌}
 use Rattle.std.specs.Prelude.{flat_map, option_and_then, slice_get, slice_index_or}
 use Rattle.std.proofs.lemmas.List.{flat_map_more, take_more}
 use Rattle.std.proofs.lemmas.Option.{get_or_from_slice_get, slice_get-map, slice_get_cases}
@@ -10,13 +10,12 @@ use Rattle.gix_attributes.specs.declared.glob.pattern.Case.{Case}
 use Rattle.gix_attributes.specs.EngineStates.{EngineContent, number_answered}
 use Rattle.gix_attributes.specs.Told.{match_told}
 use Rattle.gix_attributes.specs.Contents.{unspecified}
-use Rattle.yektrod.specs.Held.{Becomes, answer_in, text_in}
+use Rattle.yektrod.specs.Held.{Becomes, answer_in}
 use Rattle.yektrod.specs.RowsTold.{AnswerTexts, labelled_answer, answers_of, labelled_found, full_text, row_at, row_with, text_of, texts_told}
 use Rattle.yektrod.specs.declared.row.Row.{Row}
 use Rattle.yektrod.specs.Rows.{answer_row}
 use Rattle.yektrod.specs.Sourced.{told_content, told_match}
 use Rattle.yektrod.specs.SourcedContents.{SourcedContent}
-use Rattle.yektrod.specs.Told.{text_told}
 
 -- an answer that is there
 pub answer_is : {X : Type 0} (answers : Option (List X)) (i : ℕ) (m d : X) → Some m ≡ option_and_then (λ xs. slice_get xs i) answers
@@ -47,10 +46,6 @@ row_same f m = grind (arith, nat_tests, is_some, same_some)
 pub row_there : (c : SourcedContent) (i : ℕ) (m : Matched) → Some m ≡ answer_in c.labelled i
     → Some (answer_row m) ≡ option_map answer_row (answer_in (told_content c) i)
 row_there c i m there = grind (arith, nat_tests, answer_told c i, row_same)
-
-pub text_there : (c : SourcedContent) (i : ℕ) (which : ℤ) (m : Matched) → Some m ≡ answer_in c.labelled i
-    → text_told c m which ≡ text_in (told_content c) i which
-text_there c i which m there = grind (arith, nat_tests, answer_told c i)
 
 pub none_there : (c : SourcedContent) (i : ℕ) → None ≡ answer_in c.labelled i → None ≡ answer_in (told_content c) i
 none_there c i there = ap (option_map (told_match c)) there ∙ sym (answer_told c i)

@@ -1,6 +1,6 @@
 -- What a room holds is a beginning of the text, and all of it if nothing was left out.
 use Rattle.std.proofs.lemmas.Bool.Decides.{nat_tests}
-use Rattle.std.proofs.Common.{◌≡◌, ◌≤◌, ◌<◌, ◌+◌, ◌-◌, ◌^◌, ℕ, List, ◌++◌, length, take, min, arith}
+use Rattle.std.proofs.Common.{◌≡◌, ◌≤◌, ◌<◌, ◌^◌, ℕ, List, ◌++◌, length, take, min, arith}
 use Rattle.std.specs.Prelude.{Result, is_ok, if◌then◌else◌}
 use Rattle.std.proofs.Math.Seq.{take-append-add, take-length}
 use Rattle.std.proofs.lemmas.List.{length-append, length-take, length-take-le, take-append-le}
@@ -26,8 +26,3 @@ pub front_after : {T E : Type 0} (r : Result T E) (held text bytes new : List �
     → needed ≡ counted_length text → needed ≤ length held → length held < 2 ^ 63 → n ≤ length bytes
     → new ≡ (if is_ok r then held ++ take n bytes else held) → new ≡ take (length new) (text ++ bytes)
 front_after r held text bytes new needed n front counted all small fits new_is = grind (arith, nat_tests, front_held, still_front)
-
--- the length of a longer text
-pub counted_more : (text more : List ℕ) (needed : ℕ) → needed ≡ counted_length text
-    → min (needed + length more) (2 ^ 64 - 1) ≡ counted_length (text ++ more)
-counted_more text more needed counted = grind (arith, nat_tests, length-append)
