@@ -27,8 +27,10 @@ check-attr: $(library)/lib/libyektrod.a
 	cd clients/rust && CARGO_TARGET_DIR=target YEKTROD_LIB_DIR=$(CURDIR)/$(library)/lib \
 	    cargo build --quiet --release --offline --locked -p check-attr
 
+# `rt` reads no tree that has a link in it, and check-attr needs none.
 $(library)/lib/libyektrod.a: $(archive)
 	tools/c-library $(library)
+	rm $(library)/lib/libyektrod.so
 
 $(archive):
 	cd crates/yektrod && rt lib
@@ -52,8 +54,8 @@ dist-aarch64:
 	tools/release/aarch64
 
 install: $(release).tar.gz
-	tar -x -z -C dist -f $(release).tar.gz
-	$(MAKE) -s -C $(release) install PREFIX=$(PREFIX) DESTDIR=$(DESTDIR)
+	room=$$(mktemp -d) && trap 'rm -rf "$$room"' EXIT && tar -x -z -C "$$room" -f $< && \
+	    $(MAKE) -s -C "$$room"/* install PREFIX='$(PREFIX)' DESTDIR='$(DESTDIR)'
 
 $(release).tar.gz:
 	tools/dist
