@@ -412,16 +412,16 @@ const UTF_16_BE_MARK: &[u8] = b"\xFE\xFF";
 fn without_mark(bytes: &[u8]) -> &[u8]
     ensures { result.now ≡ without_front byte_order_marks bytes.now }
 {
-    if bytes.starts_with(UTF_8_MARK) {
-        &bytes[UTF_8_MARK.len()..]
-    } else if bytes.starts_with(UTF_32_BE_MARK) {
-        &bytes[UTF_32_BE_MARK.len()..]
-    } else if bytes.starts_with(UTF_32_LE_MARK) {
-        &bytes[UTF_32_LE_MARK.len()..]
-    } else if bytes.starts_with(UTF_16_LE_MARK) {
-        &bytes[UTF_16_LE_MARK.len()..]
-    } else if bytes.starts_with(UTF_16_BE_MARK) {
-        &bytes[UTF_16_BE_MARK.len()..]
+    if let Some(rest) = bytes.strip_prefix(UTF_8_MARK) {
+        rest
+    } else if let Some(rest) = bytes.strip_prefix(UTF_32_BE_MARK) {
+        rest
+    } else if let Some(rest) = bytes.strip_prefix(UTF_32_LE_MARK) {
+        rest
+    } else if let Some(rest) = bytes.strip_prefix(UTF_16_LE_MARK) {
+        rest
+    } else if let Some(rest) = bytes.strip_prefix(UTF_16_BE_MARK) {
+        rest
     } else {
         bytes
     }

@@ -108,6 +108,7 @@ pub(crate) fn read_buffer(
                 if is_kept(allow_macros, &mapping) {
                     mappings.push(mapping)?;
                 } else {
+                    drop(mapping);
                     names.truncate(count);
                 }
             }
@@ -257,7 +258,8 @@ fn pattern_of(alloc: Global, kind: Kind) -> Result<Pattern, AllocError>
 // The bits of the five flags.
 const ALL_BITS: u32 = 0b1_1111;
 
-fn macro_mode() -> Mode
+/// The mode of the pattern of a line that defines a macro, all five flags: it matches no path (own).
+pub fn macro_mode() -> Mode
     ensures { mode_bits result ≡ all_flags }
 {
     Mode::from_bits_retain(ALL_BITS)

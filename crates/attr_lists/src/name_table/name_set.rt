@@ -183,11 +183,10 @@ impl NameSet {
         ensures { AppendsName result (rc_str_bytes text) self.old self.new }
     {
         let number = self.texts.len();
-        self.texts.push(text.clone()?)?;
-        if let Err(refused) = self.numbers.insert(text, number) {
-            self.texts.pop();
-            return Err(AllocError::from(refused));
-        }
+        self.texts.reserve(1)?;
+        let own = text.clone()?;
+        self.numbers.insert(text, number)?;
+        self.texts.push_reserved(own);
         Ok(())
     }
 

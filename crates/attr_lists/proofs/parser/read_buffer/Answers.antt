@@ -46,16 +46,6 @@ loop-line-preserved-else-is_kept c =
     c.loop-line.names c.read_line.new.names (entries_view c.loop-line.mappings.items) c.loop-line.dropped.items c.loop-line.invariant told.1
     c.truncate.new.self c.len-count.result read told.2 (sym c.is_kept.ensures ∙ c.if-is_kept.false) c.len-count.ensures.count c.truncate.ensures
 
-pub loop-line-preserved-else-is_kept-2 : goal.loop-line-preserved-else-is_kept-2
-loop-line-preserved-else-is_kept-2 c =
-    let read = entry_view c.in-Ok.mapping in
-    let told = told_line (IsOver c.next.new.self) (line_view c.in-Some.line) c.loop-line.line-iterator.results c.next.new.self.results
-    c.loop-line.names c.read_line.new.names (kept_line_view c.in_ok-mapping.field-0) (Ok read) c.in-Some.ensures.steps c.in_ok-mapping.ensures.read
-    (ap kept_line_view c.in-Ok.is) in
-    line_omitted c.args.allow_macros c.args.bytes.now c.loop-line.line-iterator.results c.next.new.self.results told.0 c.args.names.now
-    c.loop-line.names c.read_line.new.names (entries_view c.loop-line.mappings.items) c.loop-line.dropped.items c.loop-line.invariant told.1
-    c.truncate.new.self c.len-count.result read told.2 (sym c.is_kept.ensures ∙ c.if-is_kept.false) c.len-count.ensures.count c.truncate.ensures
-
 pub returns-in_err-push-in-Ok-clause-err : goal.returns-in_err-push-in-Ok-clause-err
 returns-in_err-push-in-Ok-clause-err c =
     let h = c.loop-line.invariant in
