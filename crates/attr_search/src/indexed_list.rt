@@ -7,7 +7,7 @@ ghost use Rattle.attr_glob.specs.Candidates.{has_macro_mode};
 ghost use Rattle.attr_glob.specs.Paths.{path_matches};
 ghost use Rattle.attr_search.specs.inner.EntryAt.{entry_at};
 ghost use Rattle.attr_search.specs.inner.Trying.{AreTried};
-ghost use Rattle.attr_glob.specs.Views.{base_bytes, patterns_of};
+ghost use Rattle.attr_glob.specs.Views.{base_bytes, pattern_view, patterns_of};
 ghost use Rattle.attr_search.specs.inner.DirectoryKeys.{base_text, keys_of};
 ghost use Rattle.attr_lists.specs.Definitions.{HoldsList, IsSoundCollection, RegistersAs};
 ghost use Rattle.attr_lists.specs.ListViews.{entries_view};
@@ -16,14 +16,16 @@ ghost use Rattle.attr_glob.specs.Indexed.{indexed_lines, listed_lines};
 ghost use Rattle.attr_lists.specs.shared.Keeping.{IsNumbered};
 
 use crate::directory_keys::{BaseKeys, base_text};
-use crate::macro_lines::are_macros;
 use crate::path_query::PathQuery;
+use attr_glob::Pattern;
 use attr_glob::pattern::base_name;
-use attr_glob::search::pattern::{Index, List};
+use attr_glob::search::pattern::{Index, List, Mapping};
 use attr_glob::wildmatch::MatchBuffers;
 use attr_keys::key::Texts;
 use attr_lists::name_table::NameTable;
-use attr_lists::types::Attributes;
+use attr_lists::parser::macro_mode;
+use attr_lists::types::{Attributes, Value};
+use bitflags::Flags;
 use std::alloc::{AllocError, Global};
 use std::rc::Rc;
 
@@ -177,4 +179,17 @@ impl IndexedList {
             is_idle: self.is_idle,
         })
     }
+}
+
+// Whether each line defines a macro, so that none matches a path.
+fn are_macros(mappings: &[Mapping<Value>]) -> bool
+    ensures { result ≡ list_all has_macro_mode (patterns_of mappings.now) }
+{
+    mappings.iter().all(|mapping| is_macro(&mapping.pattern))
+}
+
+fn is_macro(pattern: &Pattern) -> bool
+    ensures { result ≡ has_macro_mode (pattern_view pattern.now) }
+{
+    pattern.mode.contains(macro_mode())
 }

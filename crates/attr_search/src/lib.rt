@@ -10,7 +10,6 @@ pub mod indexed_list;
 pub mod indexed_lists;
 pub mod item_index;
 pub mod laws;
-mod macro_lines;
 pub mod matching_line;
 pub mod numbers_by_key;
 pub mod path_query;

@@ -4,7 +4,7 @@ use Rattle.std.proofs.lemmas.Iterator.Search.{all_from_yields_List}
 use Rattle.std.proofs.lemmas.List.Folds.{list_all-map}
 use Rattle.attr_glob.specs.Candidates.{has_macro_mode}
 use Rattle.attr_glob.specs.Views.{pattern_view}
-use Rattle.attr_search.proofs.macro_lines.are_macros.Goals as goal
+use Rattle.attr_search.proofs.indexed_list.are_macros.Goals as goal
 
 pub returns : goal.returns
 returns c =
