@@ -32,7 +32,7 @@ mod specified;
 use crate::Search;
 pub use crate::engine::answers::Answers;
 use crate::engine::specified::number_answers;
-use crate::search::{AttributeId, Dropped, Match, MetadataCollection, Outcome, selection};
+use crate::search::{AttributeId, Dropped, Match, MetadataCollection, NewList, Outcome, selection};
 use attr_glob::pattern::Case;
 use attr_glob::search::pattern::base_of;
 use bstr::BStr;
@@ -64,15 +64,6 @@ pub struct Below<'a> {
     pub base: Option<&'a [u8]>,
     /// The bytes of the file.
     pub buffer: &'a [u8],
-}
-
-// A list to add, with the source and the base that are kept of it.
-#[derive(Drop)]
-struct NewList<'a> {
-    allow_macros: bool,
-    source: String,
-    base: Option<Vec<u8>>,
-    buffer: &'a [u8],
 }
 
 /// A path to look up.
@@ -222,14 +213,9 @@ impl Engine {
         ensures refused { OnErr result (self.new ≡ self.old) }
     {
         let names = self.collection.len();
-        self.dropped = self.search.add_patterns_below(
-            alloc,
-            list.buffer,
-            list.source,
-            list.base,
-            &mut self.collection,
-            list.allow_macros,
-        )?;
+        self.dropped = self
+            .search
+            .add_patterns_below(alloc, list, &mut self.collection)?;
         self.is_current = stays_current(self.is_current, &self.search, &self.collection, names);
         self.has_answers = false;
         Ok(())

@@ -1,6 +1,6 @@
 //! Searches of lists of patterns, and the attributes that they give a path.
 //!
-//! - `attributes`: [`Search`], the lists of patterns, and how one is added, removed and searched.
+//! - `attributes`: [`Search`], the lists of patterns, and how a [`NewList`] is added, one removed, and all searched.
 //! - `files`: lists that are read from files, and the global ones.
 //! - `collection`: [`MetadataCollection`], the names of attributes by number, with the bodies of macros.
 //! - `outcome`: [`Outcome`], which a search fills.
@@ -19,7 +19,7 @@ mod outcome;
 mod selected_name;
 pub(crate) mod selection;
 
-pub use crate::search::attributes::Search;
+pub use crate::search::attributes::{NewList, Search};
 pub use crate::search::collection::MetadataCollection;
 pub use crate::search::files::{AddError, Added};
 pub use crate::search::matches::{Matches, Selected};

@@ -32,6 +32,19 @@ use attr_search::path_query::PathQuery;
 use bstr::BStr;
 use std::alloc::{AllocError, Global};
 
+/// A list to add: the bytes of an attributes file, and the source and the base that the list keeps (own).
+#[derive(Drop)]
+pub struct NewList<'a> {
+    /// Whether the lines may define macros.
+    pub allow_macros: bool,
+    /// What is told as the source of the list's answers.
+    pub source: String,
+    /// What the paths begin with to which the list applies. It ends with a slash. Without one the list applies to all paths.
+    pub base: Option<Vec<u8>>,
+    /// The bytes of the file.
+    pub buffer: &'a [u8],
+}
+
 /// Lists of patterns, in the order of their addition. The last one takes precedence (gitattributes page).
 ///
 /// Each list is registered in the [`MetadataCollection`] that was passed when it was added, and this collection is
@@ -96,13 +109,18 @@ impl Search {
         ensures unchanged { OnErr result (collection.new ≡ collection.old) }
     {
         let base = base_of(alloc, source.as_str(), root)?;
-        self.add_patterns_below(alloc, bytes, source, base, collection, allow_macros)
+        let list = NewList {
+            allow_macros,
+            source,
+            base,
+            buffer: bytes,
+        };
+        self.add_patterns_below(alloc, list, collection)
     }
 
     /// Reads an attributes file's bytes as a list, as [`Search::add_patterns_buffer`] does, with a base of any bytes (own): the
-    /// list applies to the paths that begin with the base, and its patterns are matched against what follows it. A base ends
-    /// with a slash, as `sub/`. Without one the list applies to all paths. `source` is told with the list's answers, and says
-    /// nothing of where the list applies.
+    /// list applies to the paths that begin with the base, and its patterns are matched against what follows it. The source
+    /// says nothing of where the list applies.
     ///
     /// # Errors
     ///
@@ -110,19 +128,18 @@ impl Search {
     pub fn add_patterns_below(
         &mut self,
         alloc: Global,
-        bytes: &[u8],
-        source: String,
-        base: Option<Vec<u8>>,
+        list: NewList<'_>,
         collection: &mut MetadataCollection,
-        allow_macros: bool,
     ) -> Result<Vec<Dropped>, AllocError>
         ensures list { OnOk result (lists_in self.new ≡ lists_in self.old
-            ++ list_below (string_bytes source) (base_bytes base) allow_macros bytes.now
-            collection.new ∷ []) }
-        ensures registered { OnOk result (RegistersNext (kept_list_where allow_macros bytes.now)
+            ++ list_below (string_bytes list.entry.source) (base_bytes list.entry.base)
+            list.entry.allow_macros list.entry.buffer.now collection.new ∷ []) }
+        ensures registered { OnOk result (RegistersNext
+            (kept_list_where list.entry.allow_macros list.entry.buffer.now)
             (registered_lists self.old collection.old)
             (registered_lists self.new collection.new)) }
-        ensures dropped { IfOk result (λ dropped. dropped.items ≡ dropped_lines bytes.now) }
+        ensures dropped { IfOk result
+            (λ dropped. dropped.items ≡ dropped_lines list.entry.buffer.now) }
         ensures held { Holds collection.old self.old → Holds collection.new self.new }
         ensures kept { OnOk result (Keeps (registered_lists self.old collection.old)
             (registered_lists self.new collection.new)) }
@@ -134,11 +151,11 @@ impl Search {
     {
         self.patterns.reserve()?;
         let count = collection.len();
-        let (patterns, dropped) = collection.read_lines(alloc, bytes, allow_macros)?;
+        let (patterns, dropped) = collection.read_lines(alloc, list.buffer, list.allow_macros)?;
         let list = List {
             patterns,
-            source: Some(source),
-            base,
+            source: Some(list.source),
+            base: list.base,
         };
         let indexed = collection.register(alloc, list, count)?;
         self.patterns.push_reserved(indexed);

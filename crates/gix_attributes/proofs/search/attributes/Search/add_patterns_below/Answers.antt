@@ -24,13 +24,13 @@ use Rattle.gix_attributes.proofs.search.attributes.Search.add_patterns_below.Goa
 
 pub register-requires : goal.register-requires
 register-requires c =
-    let kept = kept_list_where c.args.allow_macros c.args.bytes.now in
+    let kept = kept_list_where c.args.list.allow_macros c.args.list.buffer.now in
     let ensured = c.in_ok-patterns.ensures in
     record {
       numbered = lines_numbered_by kept c.args.collection.now.names c.read_lines.new.self.names
           (entries_view c.in_ok-patterns.patterns.items) ensured.read.numbered;
       read = subst AreRead (sym ensured.read.numbered.lines)
-          (numbered_read c.read_lines.new.self.names kept (kept_list_where-read c.args.allow_macros c.args.bytes.now));
+          (numbered_read c.read_lines.new.self.names kept (kept_list_where-read c.args.list.allow_macros c.args.list.buffer.now));
       first = subst IsSoundCollection (sym (names_back kept (entries_view c.in_ok-patterns.patterns.items) c.args.collection.now
           c.read_lines.new.self c.len-count.result c.len-count.ensures.count ensured.read.numbered ensured.lists)) c.len-count.ensures.sound;
     }
@@ -39,16 +39,18 @@ pub returns-in_err-indexed-clause-unchanged : goal.returns-in_err-indexed-clause
 returns-in_err-indexed-clause-unchanged c =
     let same : c.register.new.self ≡ c.args.collection.now =
     c.in_err-indexed.ensures.refused
-    ∙ names_back (kept_list_where c.args.allow_macros c.args.bytes.now) (entries_view c.in_ok-patterns.patterns.items) c.args.collection.now
-    c.read_lines.new.self c.len-count.result c.len-count.ensures.count c.in_ok-patterns.ensures.read.numbered c.in_ok-patterns.ensures.lists in
+    ∙ names_back (kept_list_where c.args.list.allow_macros c.args.list.buffer.now) (entries_view c.in_ok-patterns.patterns.items)
+    c.args.collection.now c.read_lines.new.self c.len-count.result c.len-count.ensures.count
+    c.in_ok-patterns.ensures.read.numbered c.in_ok-patterns.ensures.lists in
     on_err c.from_residual-in_err-indexed.result same
 
 pub returns-in_err-indexed-clause-held : goal.returns-in_err-indexed-clause-held
 returns-in_err-indexed-clause-held c held =
     let same : c.register.new.self ≡ c.args.collection.now =
     c.in_err-indexed.ensures.refused
-    ∙ names_back (kept_list_where c.args.allow_macros c.args.bytes.now) (entries_view c.in_ok-patterns.patterns.items) c.args.collection.now
-    c.read_lines.new.self c.len-count.result c.len-count.ensures.count c.in_ok-patterns.ensures.read.numbered c.in_ok-patterns.ensures.lists in
+    ∙ names_back (kept_list_where c.args.list.allow_macros c.args.list.buffer.now) (entries_view c.in_ok-patterns.patterns.items)
+    c.args.collection.now c.read_lines.new.self c.len-count.result c.len-count.ensures.count
+    c.in_ok-patterns.ensures.read.numbered c.in_ok-patterns.ensures.lists in
     let lists = c.reserve.new.self.lists.items in
     held_views c.register.new.self lists (subst (λ known. AreHeldLists known lists) (sym same)
     (subst (AreHeldLists c.args.collection.now) (sym c.in_ok-reserve.ensures.lists)
@@ -62,11 +64,11 @@ record IsAdded (before after : Collection) (entries : List Entry) (indexed : Ind
   others : StayRegistered before after
 
 is_added : (c : After-push_reserved) → IsAdded c.args.collection.now c.register.new.self
-    (kept_list_where c.args.allow_macros c.args.bytes.now) c.in_ok-indexed.indexed
+    (kept_list_where c.args.list.allow_macros c.args.list.buffer.now) c.in_ok-indexed.indexed
 is_added c =
     let own = c.in_ok-indexed.ensures.registered in
     let list_id = c.in_ok-indexed.indexed.list_id in
-    let kept = kept_list_where c.args.allow_macros c.args.bytes.now in
+    let kept = kept_list_where c.args.list.allow_macros c.args.list.buffer.now in
     let ensured = c.in_ok-patterns.ensures in
     let facts = registers_numbered list_id kept (entries_view c.in_ok-patterns.patterns.items) c.args.collection.now c.read_lines.new.self
     c.register.new.self ensured.sound.0 ensured.sound.1 ensured.read.numbered ensured.lists own.registered in
