@@ -81,8 +81,8 @@ def listed_paths(count, paths):
 # Each with its name, what is compared, the count, the script, two sizes, and the most that the result may be.
 BOUNDS = [
     ("alike-hashes", "names that share a hash, and a path for each: instructions grow no faster than twofold",
-     Counter.quotient, lambda n: add(b"".join(name + b" a\n" for name in hostile.crowd(n))) + b"".join(
-         b"ask l s f %d\n%s\n" % (len(name), name) for name in hostile.crowd(n)), (1_000, 2_000), 1.2),
+     Counter.quotient, lambda n: add("".join(name + " a\n" for name in hostile.crowd(n)).encode()) + b"".join(
+         map(ask, hostile.crowd(n))), (1_000, 2_000), 1.2),
     ("whole-paths", "whole paths, and each asked: instructions grow no faster than twofold",
      Counter.quotient, whole_paths, (1_000, 2_000), 1.2),
     ("paths-listed", "paths that a list has, asked one by one: what a path costs does not grow with the list",

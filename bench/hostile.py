@@ -158,34 +158,24 @@ def cancelling():
             return (block + state).decode()
 
 
+def crowd(n):
+    """n names of 48 bytes that share one hash of std's fast hasher."""
+    front = cancelling()
+    return ["%s%08d%s" % (front, index, "A" * 16) for index in range(n)]
+
+
 @case(10_500)
 def colliding_names(n):
     """a line of n names of 48 bytes, made to have one hash"""
-    front = cancelling()
-    return add(b"* " + " ".join("%s%08d%s" % (front, index, "A" * 16) for index in range(n)).encode() + b"\n")
+    return add(b"* " + " ".join(crowd(n)).encode() + b"\n")
 
 
-def crowd(n):
-    """n names of 24 bytes that share a hash of one multiplication for eight bytes: the second eight cancel what the first give, and
-    the last eight, which are hashed twice, are the same."""
-    chance = random.Random("crowd")
-    goal = chance.getrandbits(64)
-    names = set()
-    while len(names) < n:
-        front = "".join(chance.choices(LETTERS, k=8)).encode()
-        product = int.from_bytes(front, "little") * MULTIPLIER & LOW
-        rest = ((product << 32 & LOW | product >> 32) ^ goal).to_bytes(8, "little")
-        if not set(rest) & set(b'\0\t\n\r "*/?[\\'):
-            names.add(front + rest + b"A" * 8)
-    return sorted(names)
-
-
-@case(20_000)
+@case(10_500)
 def crowded_names(n):
     """n plain names that share the hash by which they are looked up, and 2,000 paths"""
     names = crowd(n)
-    asks = (b"ask l s f %d\n%s\n" % (len(name), name) for name in names[:2_000])
-    return add(b"".join(name + b" a\n" for name in names)) + b"".join(asks)
+    asks = (ask(name) for name in names[:2_000])
+    return add("".join(name + " a\n" for name in names).encode()) + b"".join(asks)
 
 
 class CannotMake(Exception):

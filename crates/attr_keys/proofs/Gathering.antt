@@ -12,7 +12,8 @@ use Rattle.attr_keys.specs.declared.key.Subject.TheVariants.{Name, End, Path, An
 use Rattle.attr_keys.specs.declared.key_index.KeyRows.{KeyRows}
 use Rattle.attr_keys.specs.shared.KeyContents.{KeyContent}
 use Rattle.attr_keys.specs.inner.Cases.{content_in_case, in_case, keys_seen, natural, seen_keys, seen_text}
-use Rattle.attr_keys.specs.inner.Hashes.{IsHashed, IsHashedAt, head_of, quick_hash}
+use Rattle.attr_keys.specs.inner.Buckets.{IsHashed, IsHashedAt, head_of}
+use Rattle.attr_keys.specs.inner.Hashes.{text_hash}
 use Rattle.attr_keys.specs.inner.Links.{IsLed}
 use Rattle.attr_keys.specs.inner.MetRows.{AppendsMet, AppendsRows}
 use Rattle.attr_keys.specs.inner.Orders.{AreSorted, sorted_rows}
@@ -51,7 +52,7 @@ hashed_lower : (key : KeyContent) (hashed : HashedRows) (row : ℕ) → content_
     IsHashed true key hashed row
 hashed_lower key hashed row lower is = record {
   kind = is.kind;
-  led = subst (λ t. ∥ IsLed hashed.links.items (head_of hashed (quick_hash t)) row ∥₁) same is.led;
+  led = subst (λ t. ∥ IsLed hashed.links.items (head_of hashed (text_hash t)) row ∥₁) same is.led;
   short = is.short;
 }
   where
@@ -65,7 +66,6 @@ sorted_for false keys rows lower are = are
 sorted_for true keys rows lower are = record {
   kinds = record {
     counted = are.kinds.counted;
-    bounded = are.kinds.bounded;
     of = are.kinds.of;
     all = λ row key is keeps lacks. hashed_lower key rows.hashed row (lower_at keys row key lower is) (are.kinds.all row key is keeps lacks);
   };

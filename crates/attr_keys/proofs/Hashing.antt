@@ -1,28 +1,26 @@
 -- Rows that are found by the hashes of their keys.
 use Rattle.std.proofs.Common.{◌≡◌, ℕ, zero, suc, ◌<◌, ◌≤◌, ◌⊎◌, inl, inr, Bool, true, false, List, [], ◌∷◌, ◌++◌, length}
-use Rattle.std.proofs.Common.{Some, Option, get_or, refl, sym, ap, subst, ◌∙◌, arith, eqb, ltb, slice_set}
-use Rattle.std.specs.Prelude.{slice_get}
-use Rattle.std.proofs.Math.Bool.{Bool-set}
+use Rattle.std.proofs.Common.{get_or, refl, sym, subst, ◌∙◌, arith, slice_set}
 use Rattle.std.proofs.Math.ListN.{get_or-append}
-use Rattle.std.proofs.Math.Logic.{∥∥₁_elim, ∥∥₁_map}
+use Rattle.std.proofs.Math.Logic.{∥∥₁_map}
 use Rattle.std.proofs.Math.Seq.{get_or-append_seam}
 use Rattle.std.proofs.lemmas.Bool.{eqb-true}
 use Rattle.std.proofs.lemmas.Bool.Decides.{nat_tests}
-use Rattle.std.proofs.lemmas.List.{get_or-set_same, get_or_past, get_or_push, length-set, length_push}
+use Rattle.std.proofs.lemmas.List.{get_or-set_same, length-set}
 use Rattle.std.proofs.lemmas.List.Folds.{list_any-append}
-use Rattle.std.proofs.lemmas.Option.{same_Some}
 use Rattle.attr_keys.specs.declared.hashed.HashedRows.{HashedRows}
 use Rattle.attr_keys.specs.declared.key.Key.{Key}
 use Rattle.attr_keys.specs.declared.key.Subject.{Subject}
 use Rattle.attr_keys.specs.shared.KeyContents.{KeyContent}
-use Rattle.attr_keys.specs.inner.Cases.{content_in_case, in_case, natural}
-use Rattle.attr_keys.specs.inner.Hashes.{IsBucketOf, IsHashed, IsHashedAt, IsSame, IsSameAs, bucket_of, head_of, longest_of, quick_hash}
+use Rattle.attr_keys.specs.inner.Cases.{in_case, natural}
+use Rattle.attr_keys.specs.inner.Buckets.{IsBucketOf, IsHashed, head_of, longest_of}
+use Rattle.attr_keys.specs.inner.Hashes.{bucket_of, text_hash}
 use Rattle.attr_keys.specs.inner.Links.{AreBounded, IsLed, here, on}
 use Rattle.attr_keys.specs.inner.MetRows.{AppendsMet}
 use Rattle.attr_keys.specs.shared.Meeting.{is_end, key_content}
 use Rattle.attr_keys.specs.shared.Rows.{has_row}
 use Rattle.attr_keys.proofs.RowLemmas.{by_test}
-use Rattle.attr_keys.proofs.SeenTexts.{directed_in_case, directed_twice}
+use Rattle.attr_keys.proofs.SeenTexts.{directed_twice}
 
 -- no link leads on from none
 led_nowhere : {G : Type 0} {links : List ℕ} {end row : ℕ} → IsLed links end row → end ≡ 0 → G
@@ -53,7 +51,7 @@ pub hashed_more : (fold : Bool) (key : KeyContent) (hashed hashed' : HashedRows)
     ((subject : Subject) → longest_of subject hashed ≤ longest_of subject hashed') →
     IsHashed fold key hashed row → IsHashed fold key hashed' row
 hashed_more fold key hashed hashed' link row bounds links heads longer is =
-    let hash = quick_hash (in_case fold (natural key)) in
+    let hash = text_hash (in_case fold (natural key)) in
     record {
       kind = is.kind;
       led = ∥∥₁_map is.led (λ led. subst (λ ls. IsLed ls (head_of hashed' hash) row) (sym links) (lead hash
@@ -79,30 +77,6 @@ head_set (h ∷ hs) zero head (suc i) lt = inl refl
 head_set (h ∷ hs) (suc b) head zero lt = inl refl
 head_set (h ∷ hs) (suc b) head (suc i) lt = head_set hs b head i (omega (arith, lt))
 head_set [] bucket head i lt = absurd (omega (arith, lt))
-
--- the bounds hold with one more row, in its bucket
-pub bounded_more : (heads links heads' links' : List ℕ) (bucket link head : ℕ) → bucket < length heads → link ≡ get_or heads bucket 0 →
-    head ≡ suc (length links) → heads' ≡ slice_set heads bucket head → links' ≡ links ++ link ∷ [] → AreBounded heads links → AreBounded heads' links'
-bounded_more heads links heads' links' bucket link head inside is new set more bounds = record {
-  within = λ b. le_of b (head_set heads bucket head b inside);
-  earlier = λ row. last_link row;
-}
-  where
-    le_of : (b : ℕ) → (get_or (slice_set heads bucket head) b 0 ≡ get_or heads b 0)
-        ⊎ ((get_or (slice_set heads bucket head) b 0 ≡ head) × (get_or heads bucket 0 ≡ get_or heads b 0)) → get_or heads' b 0 ≤ length links'
-    le_of b (inl same) = grind (arith, nat_tests, length_push, bounds.within b)
-    le_of b (inr own) = grind (arith, nat_tests, length_push, own.0)
-
-    last_link : (row : ℕ) → get_or links' row 0 ≤ row
-    last_link row =
-        by_test (ltb row (length links))
-        (λ t. let lt : row < length links = grind (arith, nat_tests) in
-        omega (arith, ap (λ l. get_or l row 0) more, get_or-append links (link ∷ []) 0 row lt, bounds.earlier row))
-        (λ f. by_test (eqb row (length links))
-        (λ t. let same : row ≡ length links = eqb-true row (length links) t in
-        omega (arith, ap (λ l. get_or l row 0) more, get_or_push links link 0 row (sym same), same, is, bounds.within bucket))
-        (λ g. let past : length (links ++ link ∷ []) ≤ row = grind (arith, nat_tests, length_push) in
-        omega (arith, ap (λ l. get_or l row 0) more, get_or_past (links ++ link ∷ []) row 0 past)))
 
 -- what a hash leads to if there is one more row
 pub heads_more : (hashed hashed' : HashedRows) (bucket link head : ℕ) → bucket < length hashed.heads.items →
@@ -134,7 +108,7 @@ hashed_put fold key hashed hashed' bucket head of new set short = record {
   short = short;
 }
   where
-    at : head_of hashed' (quick_hash (in_case fold (natural key))) ≡ suc (length hashed.links.items)
+    at : head_of hashed' (text_hash (in_case fold (natural key))) ≡ suc (length hashed.links.items)
     at = grind (arith, nat_tests, length-set, get_or-set_same, of.within, of.is)
 
 -- rows that have a key are sought by links: what was appended, up to the row that a link leads to
@@ -180,12 +154,12 @@ follows_same Met links head end next old new new' is earlier own more before = r
     step row (inl has) = inl (among row has)
     step row (inr led) = led_on led next is (λ e. inl (own_row row e)) (λ l. inr l)
 
-pub followed : (Met Sought : ℕ → Type 0) (links : List ℕ) (head end : ℕ) (old new : List ℕ) → end ≡ 0 → Follows Met links head end old new →
-    ((row : ℕ) → Sought row → Met row → ∥ IsLed links head row ∥₁) → AppendsMet Met Sought old new
-followed Met Sought links head end old new none before led = record {
+pub followed : (Met : ℕ → Type 0) (links : List ℕ) (head end : ℕ) (old new : List ℕ) → end ≡ 0 → Follows Met links head end old new →
+    AppendsMet Met (IsLed links head) old new
+followed Met links head end old new none before = record {
   kept = before.kept;
   sound = before.sound;
-  all = λ row sought met. ∥∥₁_elim (led row sought met) (Bool-set (has_row new row) true) (λ way. step row (before.all row way met));
+  all = λ row led met. step row (before.all row led met);
 }
   where
     step : (row : ℕ) → (has_row new row ≡ true) ⊎ IsLed links end row → has_row new row ≡ true
@@ -193,34 +167,5 @@ followed Met Sought links head end old new none before led = record {
     step row (inr led) = led_nowhere led none
 
 -- a key as it stands in its line
-natural_in_case : (fold : Bool) (key : KeyContent) → natural (content_in_case fold key) ≡ in_case fold (natural key)
-natural_in_case fold key = directed_in_case (is_end key.subject) fold key.text
-
 pub natural_key : (key : Key) → natural (key_content key) ≡ key.text.now
 natural_key key = directed_twice (is_end key.subject) key.text.now
-
--- the links of a bucket lead to a row with the same key
-pub led_to_same : (fold : Bool) (key : Key) (keys : List KeyContent) (hashed : HashedRows) (head row : ℕ) →
-    head ≡ head_of hashed (quick_hash (in_case fold key.text.now)) → IsHashedAt fold keys hashed row → IsSameAs fold (Some key) keys row →
-    ∥ IsLed hashed.links.items head row ∥₁
-led_to_same fold key keys hashed head row at is same =
-    let own : is.0 ≡ same.0 = same_key (sym is.1 ∙ same.1) in
-    let text : in_case fold (natural is.0) ≡ in_case fold key.text.now =
-    sym (natural_in_case fold is.0) ∙ (ap (λ k. natural (content_in_case fold k)) own
-    ∙ (ap natural same.2 ∙ (natural_in_case fold (key_content key) ∙ ap (in_case fold) (natural_key key)))) in
-    ∥∥₁_map is.2.led (subst (λ h. IsLed hashed.links.items h row) (ap (λ t. head_of hashed (quick_hash t)) text ∙ sym at))
-  where
-    same_key : {k l : KeyContent} → Some k ≡ Some l → k ≡ l
-    same_key e = grind (arith, same_Some)
-
--- the line has the same key
-pub same_at : (fold : Bool) (sought : Option Key) (key : Key) (keys : List KeyContent) (row : ℕ) (own : KeyContent) → sought ≡ Some key →
-    slice_get keys row ≡ Some own → content_in_case fold own ≡ content_in_case fold (key_content key) → IsSameAs fold sought keys row
-same_at fold sought key keys row own is at same = (own, at, subst (λ s. IsSame fold s own) (sym is) same)
-
-pub other_at : (fold : Bool) (sought : Option Key) (key : Key) (keys : List KeyContent) (row : ℕ) (own : KeyContent) → sought ≡ Some key →
-    slice_get keys row ≡ Some own → (content_in_case fold own ≡ content_in_case fold (key_content key) → ⊥) → IsSameAs fold sought keys row → ⊥
-other_at fold sought key keys row own is at other same =
-    let alike : content_in_case fold same.0 ≡ content_in_case fold (key_content key) = subst (λ s. IsSame fold s same.0) is same.2 in
-    let own_key : own ≡ same.0 = grind (arith, same_Some, at, same.1) in
-    other (ap (content_in_case fold) own_key ∙ alike)

@@ -4,7 +4,6 @@ pub mod FirstCodes
 pub mod Ordering
 pub mod Meetings
 pub mod Parts
-pub mod Raising
 pub mod Cuts
 pub mod Links
 pub mod Hashing

@@ -5,11 +5,10 @@ use Rattle.std.proofs.lemmas.Grind.{common_steps}
 use Rattle.std.proofs.lemmas.Bool.Decides.{nat_tests}
 use Rattle.std.proofs.lemmas.List.{length-map, length-reverse, map_push, reverse-append, reverse-reverse}
 use Rattle.attr_keys.specs.declared.key.Key.{Key}
-use Rattle.attr_keys.specs.declared.key.Subject.{Subject}
 use Rattle.attr_keys.specs.shared.KeyContents.{KeyContent}
-use Rattle.attr_keys.specs.inner.Cases.{content_in_case, in_case, natural, seen, seen_keys}
+use Rattle.attr_keys.specs.inner.Cases.{content_in_case, in_case, seen, seen_keys}
 use Rattle.attr_keys.specs.shared.Codes.{byte_code, codes_of, key_codes, row_codes}
-use Rattle.attr_keys.specs.shared.Meeting.{directed, is_end, key_content, same_subject}
+use Rattle.attr_keys.specs.shared.Meeting.{directed, is_end, key_content}
 
 pub codes_in_case : (fold : Bool) (text : List ℕ) (is_whole : Bool) → codes_of false (in_case fold text) is_whole ≡ codes_of fold text is_whole
 codes_in_case true (b ∷ bs) is_whole = ap (λ l. byte_code true b ∷ l) (codes_in_case true bs is_whole)
@@ -56,30 +55,3 @@ length-in_case fold text = grind (arith, nat_tests, length-map)
 
 pub length-seen : (fold from_end : Bool) (text : List ℕ) → length (in_case fold (directed from_end text)) ≡ length text
 length-seen fold from_end text = grind (arith, nat_tests, length-map, length-reverse)
-
--- a key in its case, by its parts
-abbrev in_parts : Subject → List ℕ → Bool → KeyContent
-in_parts subject text is_whole = record { subject = subject; text = directed (is_end subject) text; is_whole = is_whole }
-
-parts_of : (fold : Bool) (key : Key) → content_in_case fold (key_content key) ≡ in_parts key.subject (in_case fold key.text.now) key.is_whole
-parts_of fold key =
-    ap (λ t. record { subject = key.subject; text = t; is_whole = key.is_whole })
-    (sym (directed_in_case (is_end key.subject) fold key.text.now))
-
--- keys of one subject that are both whole or not are the same if their texts are
-pub same_keys : (fold : Bool) (key other : Key) → same_subject key.subject other.subject ≡ true → key.is_whole ≡ other.is_whole →
-    in_case fold key.text.now ≡ in_case fold other.text.now →
-    content_in_case fold (key_content key) ≡ content_in_case fold (key_content other)
-same_keys fold key other subjects wholes texts =
-    let is : key.subject ≡ other.subject = grind (arith, nat_tests) in
-    parts_of fold key ∙ (ap (λ s. in_parts s (in_case fold key.text.now) key.is_whole) is
-    ∙ (ap (λ t. in_parts other.subject t key.is_whole) texts
-    ∙ (ap (in_parts other.subject (in_case fold other.text.now)) wholes ∙ sym (parts_of fold other))))
-
--- keys that are the same have one text
-pub same_key_texts : (fold : Bool) (key other : Key) → content_in_case fold (key_content key) ≡ content_in_case fold (key_content other) →
-    in_case fold key.text.now ≡ in_case fold other.text.now
-same_key_texts fold key other same = sym (own key) ∙ (ap natural same ∙ own other)
-  where
-    own : (k : Key) → natural (content_in_case fold (key_content k)) ≡ in_case fold k.text.now
-    own k = grind (arith, nat_tests, directed_in_case, directed_twice)

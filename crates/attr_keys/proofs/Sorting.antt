@@ -10,9 +10,8 @@ use Rattle.attr_keys.specs.declared.hashed.HashedRows.{HashedRows}
 use Rattle.attr_keys.specs.declared.key.Subject.{Subject}
 use Rattle.attr_keys.specs.declared.kinds.KindRows.{KindRows}
 use Rattle.attr_keys.specs.shared.KeyContents.{KeyContent}
-use Rattle.attr_keys.specs.inner.Hashes.{IsHashed}
+use Rattle.attr_keys.specs.inner.Buckets.{IsHashed}
 use Rattle.attr_keys.specs.inner.Kinds.{AreKinds, is_kept, kind_rows, rows_with}
-use Rattle.attr_keys.specs.inner.Links.{AreBounded}
 use Rattle.attr_keys.specs.shared.Meeting.{is_about, same_subject}
 use Rattle.attr_keys.specs.shared.Rows.{has_row}
 use Rattle.attr_keys.proofs.RowLemmas.{by_test}
@@ -43,13 +42,11 @@ about_kept [] more subject row is = let no : false ≡ true = is in absurd cc
 -- One more line. It is found by its hash, or among the rows of its subject.
 pub kinds_more : (fold : Bool) (keys : List KeyContent) (more : KeyContent) (hashed hashed' : HashedRows) (rows rows' : Subject → List ℕ)
     (put : Bool) → AreKinds fold keys hashed rows → length hashed'.links.items ≡ length hashed.links.items + 1 →
-    AreBounded hashed'.heads.items hashed'.links.items →
     ((key : KeyContent) (row : ℕ) → IsHashed fold key hashed row → IsHashed fold key hashed' row) →
     (put ≡ true → IsHashed fold more hashed' (length keys)) → (put ≡ true → (s : Subject) → rows' s ≡ rows s) →
     (put ≡ false → (s : Subject) → rows' s ≡ rows_with more.subject (length keys) s (rows s)) → AreKinds fold (keys ++ more ∷ []) hashed' rows'
-kinds_more fold keys more hashed hashed' rows rows' put are counted bounded kept own same added = record {
+kinds_more fold keys more hashed hashed' rows rows' put are counted kept own same added = record {
   counted = counted ∙ (ap (λ n. n + 1) are.counted ∙ sym (length_push keys more));
-  bounded = bounded;
   of = λ subject row has. of subject row has;
   all = λ row key is keeps lacks. step row key keeps lacks (get_cases keys more key row is);
 }
@@ -88,7 +85,6 @@ pub kinds_moved : (fold : Bool) (keys : List KeyContent) (hashed : HashedRows) (
     ((s : Subject) (row : ℕ) → has_row (rows' s) row ≡ has_row (rows s) row) → AreKinds fold keys hashed rows → AreKinds fold keys hashed rows'
 kinds_moved fold keys hashed rows rows' same are = record {
   counted = are.counted;
-  bounded = are.bounded;
   of = λ s row has. are.of s row (sym (same s row) ∙ has);
   all = λ row key is keeps lacks. are.all row key is keeps (sym (same key.subject row) ∙ lacks);
 }

@@ -2,6 +2,7 @@
 pub mod Cases
 pub mod Extensions
 pub mod Hashes
+pub mod Buckets
 pub mod Kinds
 pub mod Links
 pub mod Orders

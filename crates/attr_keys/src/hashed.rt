@@ -4,16 +4,16 @@ ghost use Rattle.std.specs.Prelude.{◌≡◌, ◌<◌, ◌≤◌, ◌+◌, [], 
 ghost use Rattle.std.specs.Bool.{OnFalse};
 ghost use Rattle.attr_keys.specs.inner.Cases.{in_case};
 ghost use Rattle.attr_keys.specs.inner.Extensions.{extension, is_hashed, is_reversed_extension};
-ghost use Rattle.attr_keys.specs.inner.Hashes.{IsBucketOf, IsHashed, IsHashedAt, IsLonger, IsSameAs, IsSoughtOf, bucket_of, eights_hash, head_of, longest_of, mixed, packed, quick_hash};
-ghost use Rattle.attr_keys.specs.inner.Links.{AreBounded};
+ghost use Rattle.attr_keys.specs.inner.Hashes.{IsLonger, bucket_of, text_hash};
+ghost use Rattle.attr_keys.specs.inner.Links.{AreBounded, IsLed};
 ghost use Rattle.attr_keys.specs.inner.MetRows.{AppendsMet, IsMet};
 ghost use Rattle.attr_keys.specs.declared.key.Subject.{Subject};
-ghost use Rattle.attr_keys.specs.declared.key.Subject.TheVariants.{Name, End, Path};
 ghost use Rattle.attr_keys.specs.shared.KeyContents.{KeyContent};
 ghost use Rattle.attr_keys.specs.shared.Meeting.{key_content};
 
-use crate::key::{Key, Keyed, Keys, Subject, Texts, is_same_key};
+use crate::key::{Key, Keyed, Subject, Texts};
 use std::alloc::{AllocError, Global};
+use std::hash::{FoldHasher, Hasher};
 
 // So many rows may share a bucket. The others of it are not found by their hashes.
 const MOST: usize = 16;
@@ -34,9 +34,12 @@ pub struct HashedRows {
     pub longest_extension: usize,
     /// The same of paths.
     pub longest_path: usize,
+    ghost bounded: { AreBounded heads.items links.items },
 }
 
 impl HashedRows {
+    ghost use Rattle.attr_keys.specs.inner.Buckets.{IsBucketOf, IsEndHead, IsHashed, IsHashedAt, IsHeadOf, longest_of};
+
     /// No rows yet, and as many buckets as there will be rows.
     ///
     /// # Errors
@@ -44,8 +47,6 @@ impl HashedRows {
     /// If memory runs out.
     pub fn new(alloc: Global, count: usize) -> Result<HashedRows, AllocError>
         ensures empty { IfOk result (λ hashed. hashed.links.items ≡ []) }
-        ensures bounded { IfOk result (λ hashed.
-            AreBounded hashed.heads.items hashed.links.items) }
         ensures buckets { IfOk result (λ hashed. length hashed.heads.items ≡ count) }
         ensures longest { IfOk result (λ hashed. (hashed.longest_name ≡ 0)
             × (hashed.longest_extension ≡ 0) × (hashed.longest_path ≡ 0)) }
@@ -75,11 +76,8 @@ impl HashedRows {
     ) -> Result<bool, AllocError>
         ensures counted { OnOk result
             (length self.new.links.items ≡ length self.old.links.items + 1) }
-        ensures bounded { OnOk result (AreBounded self.old.heads.items self.old.links.items →
-            AreBounded self.new.heads.items self.new.links.items) }
-        ensures kept { OnOk result (AreBounded self.old.heads.items self.old.links.items →
-            (other : KeyContent) (row : ℕ) → IsHashed fold other self.old row →
-            IsHashed fold other self.new row) }
+        ensures kept { OnOk result ((other : KeyContent) (row : ℕ) →
+            IsHashed fold other self.old row → IsHashed fold other self.new row) }
         ensures put { IfOk result (λ put. put ≡ true → IsHashed fold
             (key_content key.entry) self.new (length self.old.links.items)) }
     {
@@ -164,106 +162,87 @@ impl HashedRows {
     #[inline(always)]
     pub fn append<K: Keyed>(
         &self,
-        keys: Keys<'_, K>,
+        lines: &[K],
         texts: Texts<'_>,
         buffer: &mut Vec<u8>,
         found: &mut Vec<usize>,
     ) -> Result<(), AllocError>
-        requires counted { length self.now.links.items ≡ length keys.lines.now }
-        requires bounded { AreBounded self.now.heads.items self.now.links.items }
-        requires fold { keys.view.fold ≡ texts.fold }
+        requires counted { length self.now.links.items ≡ length lines.now }
         ensures { OnOk result (AppendsMet
-            (IsMet texts.entry (map K.content keys.entry.lines.now))
-            (IsHashedAt texts.entry.fold (map K.content keys.entry.lines.now) self.now)
+            (IsMet texts.entry (map K.content lines.now))
+            (IsHashedAt texts.entry.fold (map K.content lines.now) self.now)
             found.old.items found.new.items) }
     {
-        self.append_same(keys, self.name_of(texts), buffer, found)?;
-        self.append_same(keys, self.extension_of(texts), buffer, found)?;
-        self.append_same(keys, self.path_of(texts), buffer, found)
-    }
-
-    // The base name as a key. None if it is longer than each that is a key.
-    #[inline(always)]
-    fn name_of<'a>(&self, texts: Texts<'a>) -> Option<Key<'a>>
-        ensures { IsSoughtOf Name texts.entry self.now result }
-    {
-        if texts.name.len() > self.longest_name {
-            return None;
+        let name = self.head(texts.fold, texts.name, self.longest_name, buffer)?;
+        self.append_bucket(lines, texts, name, found)?;
+        let end = self.end_head(texts, buffer)?;
+        // A bucket that two texts share is looked through once.
+        if end != name {
+            self.append_bucket(lines, texts, end, found)?;
         }
-        Some(Key {
-            subject: Subject::Name,
-            text: texts.name,
-            is_whole: true,
-        })
-    }
-
-    // The extension of the base name as a key. None if there is none, or if it is longer than each that is a key.
-    #[inline(always)]
-    fn extension_of<'a>(&self, texts: Texts<'a>) -> Option<Key<'a>>
-        ensures { IsSoughtOf End texts.entry self.now result }
-    {
-        let Some(text) = extension(texts.name, self.longest_extension) else {
-            return None;
-        };
-        Some(Key {
-            subject: Subject::End,
-            text,
-            is_whole: false,
-        })
-    }
-
-    // The path as a key. None if it is longer than each that is a key.
-    #[inline(always)]
-    fn path_of<'a>(&self, texts: Texts<'a>) -> Option<Key<'a>>
-        ensures { IsSoughtOf Path texts.entry self.now result }
-    {
-        if texts.path.len() > self.longest_path {
-            return None;
+        let path = self.head(texts.fold, texts.path, self.longest_path, buffer)?;
+        if path != name && path != end {
+            self.append_bucket(lines, texts, path, found)?;
         }
-        Some(Key {
-            subject: Subject::Path,
-            text: texts.path,
-            is_whole: true,
-        })
+        Ok(())
     }
 
-    // Appends rows that have this key, the last first: among them all of those that are found by their hashes.
+    // The number of rows up to the last one that is in the bucket of a text, and 0 if the text is longer than the longest key.
     #[inline(always)]
-    fn append_same<K: Keyed>(
+    fn head(
         &self,
-        keys: Keys<'_, K>,
-        sought: Option<Key<'_>>,
+        fold: bool,
+        text: &[u8],
+        longest: usize,
         buffer: &mut Vec<u8>,
+    ) -> Result<usize, AllocError>
+        ensures within { IfOk result (λ head. head ≤ length self.now.links.items) }
+        ensures head { IfOk result (λ head. IsHeadOf fold text.now longest self.now head) }
+    {
+        if text.len() > longest {
+            return Ok(0);
+        }
+        let bucket = self.bucket(hash_in_case(fold, text, buffer)?);
+        Ok(self.heads.get(bucket).copied().unwrap_or(0))
+    }
+
+    // The same of the extension of the base name, if it has one.
+    #[inline(always)]
+    fn end_head(&self, texts: Texts<'_>, buffer: &mut Vec<u8>) -> Result<usize, AllocError>
+        ensures within { IfOk result (λ head. head ≤ length self.now.links.items) }
+        ensures head { IfOk result (λ head. IsEndHead
+            texts.entry.fold (extension texts.entry.name.now) self.now head) }
+    {
+        match extension(texts.name, self.longest_extension) {
+            Some(text) => self.head(texts.fold, text, self.longest_extension, buffer),
+            None => Ok(0),
+        }
+    }
+
+    // Appends the rows of a bucket whose keys the texts have, the last first.
+    #[inline(always)]
+    fn append_bucket<K: Keyed>(
+        &self,
+        lines: &[K],
+        texts: Texts<'_>,
+        head: usize,
         found: &mut Vec<usize>,
     ) -> Result<(), AllocError>
-        requires counted { length self.now.links.items ≡ length keys.lines.now }
-        requires bounded { AreBounded self.now.heads.items self.now.links.items }
+        requires counted { length self.now.links.items ≡ length lines.now }
+        requires within { head ≤ length self.now.links.items }
         ensures { OnOk result (AppendsMet
-            (IsSameAs keys.entry.view.fold sought.entry (map K.content keys.entry.lines.now))
-            (IsHashedAt keys.entry.view.fold (map K.content keys.entry.lines.now) self.now)
+            (IsMet texts.entry (map K.content lines.now)) (IsLed self.now.links.items head)
             found.old.items found.new.items) }
     {
-        let Some(key) = sought else {
-            return Ok(());
-        };
-        let fold = keys.view.fold;
-        let mut end = self.head(hash_in_case(fold, key.text, buffer)?);
+        let mut end = head;
         while end > 0 {
             let row = end - 1;
-            if is_same_key(fold, keys.lines[row].key(), key) {
+            if texts.have(lines[row].key()) {
                 found.push(row)?;
             }
             end = self.links[row];
         }
         Ok(())
-    }
-
-    // The number of rows up to the last one that is in the bucket of a hash.
-    #[inline(always)]
-    fn head(&self, hash: u64) -> usize
-        ensures { result ≡ head_of self.now hash }
-    {
-        self.heads.get(self.bucket(hash)).copied().unwrap_or(0)
     }
 }
 
@@ -309,13 +288,13 @@ fn extension(name: &[u8], longest: usize) -> Option<&[u8]>
 // The hash of a text, in lower case if `fold` is set. `buffer` is one for that.
 #[inline(always)]
 fn hash_in_case(fold: bool, text: &[u8], buffer: &mut Vec<u8>) -> Result<u64, AllocError>
-    ensures { IfOk result (λ hash. hash ≡ quick_hash (in_case fold text.now)) }
+    ensures { IfOk result (λ hash. hash ≡ text_hash (in_case fold text.now)) }
 {
     if !fold {
-        return Ok(quick_hash(text));
+        return Ok(text_hash(text));
     }
     write_lower(text, buffer)?;
-    Ok(quick_hash(buffer))
+    Ok(text_hash(buffer))
 }
 
 // The text in lower case, in place of what the buffer had.
@@ -328,48 +307,11 @@ fn write_lower(text: &[u8], buffer: &mut Vec<u8>) -> Result<(), AllocError>
     Ok(())
 }
 
-// An odd number, so that numbers that differ give different hashes, and that each byte changes the first bits.
-const SPREAD: u64 = 0x9e37_79b9_7f4a_7c15;
-
-// The bytes of a text of fewer than eight, after a one by which texts of different lengths differ.
-fn packed(text: &[u8]) -> u64
-    ensures { result ≡ packed 1 text.now }
+// The hash of a text by std's fast hasher. Texts can be made to share one.
+fn text_hash(text: &[u8]) -> u64
+    ensures { result ≡ text_hash text.now }
 {
-    let mut number: u64 = 1;
-    let mut rest = text;
-    while let Some((byte, others)) = rest.split_first() {
-        number = number.wrapping_mul(256).wrapping_add(u64::from(*byte));
-        rest = others;
-    }
-    number
-}
-
-// A hash of a text in few steps, which texts can be made to share: a step for eight bytes, and one for the last eight.
-fn quick_hash(text: &[u8]) -> u64
-    ensures { result ≡ quick_hash text.now }
-{
-    let Some(last) = text.last_chunk::<8>() else {
-        return mixed(0, packed(text));
-    };
-    mixed(eights_hash(text), u64::from_le_bytes(*last))
-}
-
-// A hash of a text but for the last bytes, fewer than eight.
-fn eights_hash(text: &[u8]) -> u64
-    ensures { result ≡ eights_hash 0 text.now }
-{
-    let mut hash: u64 = 0;
-    let mut rest = text;
-    while let Some((eight, others)) = rest.split_first_chunk::<8>() {
-        hash = mixed(hash, u64::from_le_bytes(*eight));
-        rest = others;
-    }
-    hash
-}
-
-// A number that both numbers change.
-fn mixed(hash: u64, number: u64) -> u64
-    ensures { result ≡ mixed hash number }
-{
-    (hash.rotate_left(32) ^ number).wrapping_mul(SPREAD)
+    let mut hasher = FoldHasher::default();
+    hasher.write(text);
+    hasher.finish()
 }

@@ -1,14 +1,14 @@
 //! Keys of lines, and the codes by which they are sorted: 0 past the end of a text, 1 at the end of a whole text, and else
 //! the value of a byte plus 2.
 
-ghost use Rattle.std.specs.Prelude.{◌≡◌, ◌≢◌, ◌↔◌, ◌<◌, ◌≤◌, Bool, IsTrue, false, length, map, true, nat_eq, slice_get, slice_index, take};
+ghost use Rattle.std.specs.Prelude.{◌≡◌, ◌≢◌, ◌<◌, ◌≤◌, Bool, false, length, map, true, nat_eq, slice_get, slice_index, take};
 ghost use Rattle.std.specs.Cmp.Lexicographic.{slice_cmp};
 ghost use Rattle.std.specs.Bool.{OnFalse};
 ghost use Rattle.std.specs.List.{starts_with};
 ghost use Rattle.std.specs.Ordering.{nat_cmp};
-ghost use Rattle.attr_keys.specs.inner.Cases.{byte_in_case, content_in_case, in_case, keys_seen, seen_keys, seen_text, text_standing};
+ghost use Rattle.attr_keys.specs.inner.Cases.{byte_in_case, keys_seen, seen_keys, seen_text, text_standing};
 ghost use Rattle.attr_keys.specs.shared.Codes.{codes_of, row_codes};
-ghost use Rattle.attr_keys.specs.shared.Meeting.{content_met, directed, same_subject, has_content, is_end, is_whole_row, key_content, text_has};
+ghost use Rattle.attr_keys.specs.shared.Meeting.{content_met, directed, has_content, is_end, is_whole_row, key_content, text_has};
 ghost use Rattle.attr_keys.specs.shared.Rows.{IsCommon, is_up_to};
 
 use std::cmp::Ordering;
@@ -315,40 +315,5 @@ fn has_part(view: View, text: &[u8], part: &[u8]) -> bool
         own.eq_ignore_ascii_case(part)
     } else {
         part == own
-    }
-}
-
-/// Whether two keys are the same, as they are read.
-#[inline(always)]
-pub fn is_same_key(fold: bool, key: Key<'_>, other: Key<'_>) -> bool
-    ensures { IsTrue result ↔ (content_in_case fold (key_content key.entry)
-        ≡ content_in_case fold (key_content other.entry)) }
-{
-    is_same_subject(key.subject, other.subject)
-        && key.is_whole == other.is_whole
-        && is_same_text(fold, key.text, other.text)
-}
-
-#[inline(always)]
-fn is_same_text(fold: bool, text: &[u8], other: &[u8]) -> bool
-    ensures { IsTrue result ↔ (in_case fold text.now ≡ in_case fold other.now) }
-{
-    if fold {
-        text.eq_ignore_ascii_case(other)
-    } else {
-        text == other
-    }
-}
-
-#[inline(always)]
-fn is_same_subject(subject: Subject, other: Subject) -> bool
-    ensures { result ≡ same_subject subject other }
-{
-    match subject {
-        Subject::Name => matches!(other, Subject::Name),
-        Subject::End => matches!(other, Subject::End),
-        Subject::Path => matches!(other, Subject::Path),
-        Subject::Anything => matches!(other, Subject::Anything),
-        Subject::Nothing => matches!(other, Subject::Nothing),
     }
 }

@@ -155,7 +155,7 @@ impl KeyRows {
     {
         let keys = keys_of(lines, texts.fold, false);
         let ends = keys_of(lines, texts.fold, true);
-        self.hashed.append(keys, texts, buffer, found)?;
+        self.hashed.append(lines, texts, buffer, found)?;
         self.names.append(keys, texts.name, found)?;
         self.ends.append(ends, texts.name, found)?;
         self.paths.append(keys, texts.path, found)?;

@@ -11,7 +11,7 @@ ghost use Rattle.attr_keys.specs.shared.Rows.{AreFirsts, AreInOrder, AreAllLinke
 use crate::key::{
     Keyed, Keys, common, first_code, first_row_code, has_row_key, is_row_up_to, may_begin_with,
 };
-use crate::order::{put_in_order, raise_equals};
+use crate::order::put_in_order;
 use std::alloc::{AllocError, Global};
 
 // So few keys are compared one by one.
@@ -45,11 +45,11 @@ impl Prefixes {
     {
         let mut firsts = Vec::new(alloc);
         let mut links = Vec::new(alloc);
-        put_in_order(keys, &mut rows);
+        // Rows ascend, so those of equal keys do still.
+        put_in_order(keys, &mut rows)?;
         if rows.len() <= FEW {
             push_firsts(keys, &rows, &mut firsts)?;
         } else {
-            raise_equals(keys, &mut rows);
             push_links(keys, &rows, &mut links)?;
         }
         Ok(Prefixes {

@@ -6,8 +6,7 @@ use Rattle.attr_keys.specs.declared.key.Subject.TheVariants.{Name, End, Path, An
 use Rattle.attr_keys.specs.declared.kinds.KindRows.{KindRows}
 use Rattle.attr_keys.specs.shared.KeyContents.{KeyContent}
 use Rattle.attr_keys.specs.inner.Cases.{content_in_case}
-use Rattle.attr_keys.specs.inner.Hashes.{IsHashed}
-use Rattle.attr_keys.specs.inner.Links.{AreBounded}
+use Rattle.attr_keys.specs.inner.Buckets.{IsHashed}
 use Rattle.attr_keys.specs.shared.Meeting.{is_about, same_subject}
 use Rattle.attr_keys.specs.shared.Rows.{has_row}
 
@@ -31,7 +30,6 @@ rows_with subject row s rows = if is_kept s && same_subject s subject then rows 
 -- Each of these rows is of its subject, and each line is there or found by its hash, if it is kept.
 pub record AreKinds (fold : Bool) (keys : List KeyContent) (hashed : HashedRows) (rows : Subject → List ℕ) : Type 0 where
   pub counted : length hashed.links.items ≡ length keys
-  pub bounded : AreBounded hashed.heads.items hashed.links.items
   pub of : (subject : Subject) (row : ℕ) → has_row (rows subject) row ≡ true → is_about subject (slice_get keys row) ≡ true
   pub all : (row : ℕ) (key : KeyContent) → slice_get keys row ≡ Some key → is_kept key.subject ≡ true →
       has_row (rows key.subject) row ≡ false → IsHashed fold key hashed row

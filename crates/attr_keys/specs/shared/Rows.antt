@@ -1,8 +1,8 @@
 -- Numbers of keys (own).
-use Rattle.std.specs.Prelude.{◌≡◌, ◌≢◌, ℕ, ◌+◌, ◌-◌, ◌<◌, ◌≤◌, Bool, false, not, List, ◌++◌, length, map, nat_eq, ◌==◌, slice_index, true, drop, take}
+use Rattle.std.specs.Prelude.{◌≡◌, ◌≢◌, ℕ, ◌+◌, ◌<◌, ◌≤◌, Bool, false, not, List, length, map, nat_eq, ◌==◌, slice_index, true, take}
 use Rattle.std.specs.Cmp.Lexicographic.{slice_cmp}
 use Rattle.std.specs.List.{list_any, starts_with}
-use Rattle.std.specs.List.Sorted.{IsNonDecreasing, IsPermutation, IsSortedByKey}
+use Rattle.std.specs.List.Sorted.{IsSortedByKey}
 use Rattle.std.specs.Ordering.{is_lt, nat_cmp}
 use Rattle.attr_keys.specs.declared.prefixes.Prefixes.{Prefixes}
 use Rattle.attr_keys.specs.shared.KeyContents.{KeyContent}
@@ -63,15 +63,3 @@ pub record ArePrefixes (keys : List KeyContent) (prefixes : Prefixes) : Type 0 w
 -- each number is below the one before it
 abbrev pub IsFalling : List ℕ → Type 0
 IsFalling rows = (k : ℕ) → k + 1 < length rows → slice_index rows (k + 1) < slice_index rows k
-
--- of equal keys the row that comes first is at most the one after it
-abbrev pub AreRaised : List KeyContent → List ℕ → Type 0
-AreRaised keys rows = (k : ℕ) → k + 1 < length rows →
-    row_codes keys (slice_index rows k) ≡ row_codes keys (slice_index rows (k + 1)) → slice_index rows k ≤ slice_index rows (k + 1)
-
--- The rows from start up to end ascend. The others are as they were.
-pub record IsRaisedWithin (start end : ℕ) (old new : List ℕ) : Type 0 where
-  pub moved : List ℕ
-  pub permutation : IsPermutation (take (end - start) (drop start old)) moved
-  pub ascend : IsNonDecreasing moved
-  pub is : new ≡ take start old ++ (moved ++ drop end old)

@@ -2,14 +2,14 @@ use Rattle.std.proofs.Common.{◌≡◌, arith, get_or, inl, length, refl, subst
 use Rattle.std.specs.Prelude.{IfSome}
 use Rattle.std.proofs.lemmas.Bool.Decides.{nat_tests}
 use Rattle.std.proofs.lemmas.List.{get_or_read_under, length-reverse, length_push}
-use Rattle.attr_keys.specs.inner.Hashes.{IsBucketOf}
+use Rattle.attr_keys.specs.inner.Buckets.{IsBucketOf}
 use Rattle.attr_keys.specs.shared.Meeting.{key_content}
-use Rattle.attr_keys.proofs.Hashing.{bounded_more, hashed_more, hashed_put, heads_more}
+use Rattle.attr_keys.proofs.Hashing.{hashed_more, hashed_put, heads_more}
 use Rattle.attr_keys.proofs.hashed.HashedRows.push.Goals as goal
 
 pub returns-in_default-clause-kept : goal.returns-in_default-clause-kept
-returns-in_default-clause-kept c = λ bounds key row hashed.
-    hashed_more c.args.fold key c.args.self.now _ 0 row bounds c.in_ok-push.ensures.items (λ hash. inl refl)
+returns-in_default-clause-kept c = λ key row hashed.
+    hashed_more c.args.fold key c.args.self.now _ 0 row c.args.self.now.bounded c.in_ok-push.ensures.items (λ hash. inl refl)
     (λ subject. grind (arith, nat_tests)) hashed
 
 bucket_is : (c : goal.After-note_length) → IsBucketOf c.args.fold (key_content c.args.key) c.args.self.now c.in-Some.bucket
@@ -23,16 +23,9 @@ link_is c =
 head_is : (c : goal.After-note_length) → c.len.result ≡ suc (length c.args.self.now.links.items)
 head_is c = grind (arith, nat_tests, length_push, c.len.ensures, c.in_ok-push-2.ensures.items)
 
-pub returns-clause-bounded : goal.returns-clause-bounded
-returns-clause-bounded c = λ bounds.
-    bounded_more c.args.self.now.heads.items c.args.self.now.links.items c.note_length.new.self.heads.items c.note_length.new.self.links.items
-    c.in-Some.bucket c.index.result.now c.len.result (bucket_is c).within (link_is c) (head_is c)
-    (grind (arith, nat_tests, c.note_length.ensures.heads))
-    (grind (arith, nat_tests, c.note_length.ensures.links, c.in_ok-push-2.ensures.items)) bounds
-
 pub returns-clause-kept : goal.returns-clause-kept
-returns-clause-kept c = λ bounds key row hashed.
-    hashed_more c.args.fold key c.args.self.now c.note_length.new.self c.index.result.now row bounds
+returns-clause-kept c = λ key row hashed.
+    hashed_more c.args.fold key c.args.self.now c.note_length.new.self c.index.result.now row c.args.self.now.bounded
     (grind (arith, nat_tests, c.note_length.ensures.links, c.in_ok-push-2.ensures.items))
     (heads_more c.args.self.now c.note_length.new.self c.in-Some.bucket c.index.result.now c.len.result (bucket_is c).within (link_is c) (head_is c)
     (grind (arith, nat_tests, c.note_length.ensures.heads)))

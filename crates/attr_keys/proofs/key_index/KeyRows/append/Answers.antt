@@ -1,9 +1,7 @@
-use Rattle.std.proofs.Common.{◌≡◌, ◌∙◌, ◌++◌, map, subst, ap, false, true}
-use Rattle.std.specs.Prelude.{slice_get}
+use Rattle.std.proofs.Common.{◌∙◌, ◌++◌, map, subst, ap, false, true}
 use Rattle.std.proofs.lemmas.Result.{on_ok_weaker}
-use Rattle.attr_keys.specs.inner.Hashes.{IsHashedAt}
-use Rattle.attr_keys.specs.inner.MetRows.{AppendsMet}
-use Rattle.attr_keys.specs.shared.Meeting.{content_met_at}
+use Rattle.attr_keys.specs.inner.Buckets.{IsHashedAt}
+use Rattle.attr_keys.specs.inner.MetRows.{AppendsMet, IsMet}
 use Rattle.attr_keys.proofs.Gathering.{all_met, seen_by, text_seen}
 use Rattle.attr_keys.proofs.key_index.KeyRows.append.Goals as goal
 
@@ -20,10 +18,8 @@ returns g c =
     let by' = c.keys_of-ends.ensures in
     let seen = seen_by content c.keys_of-keys.result lines fold false by.lines by.fold by.from_end in
     let seen' = seen_by content c.keys_of-ends.result lines fold true by'.lines by'.fold by'.from_end in
-    let met = subst (λ old. AppendsMet (λ row. content_met_at fold name path (slice_get keys row) ≡ true) (IsHashedAt fold keys rows.hashed) old
-    c.append.new.found.items) c.requires.empty
-    (subst (λ ls. AppendsMet (λ row. content_met_at fold name path (slice_get (map content ls) row) ≡ true)
-    (IsHashedAt fold (map content ls) rows.hashed) c.args.found.now.items c.append.new.found.items) by.lines c.in_ok-append.ensures) in
+    let met = subst (λ old. AppendsMet (IsMet c.args.texts keys) (IsHashedAt fold keys rows.hashed) old c.append.new.found.items) c.requires.empty
+    c.in_ok-append.ensures in
     on_ok_weaker c.append-5.result
     (λ more. all_met fold name path keys rows c.append.new.found.items c.append-2.new.found.items c.append-3.new.found.items
     c.append-4.new.found.items c.append-5.new.found.items c.requires.sorted met

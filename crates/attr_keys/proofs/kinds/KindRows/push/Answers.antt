@@ -2,7 +2,7 @@ use Rattle.std.proofs.Common.{◌≡◌, ◌∙◌, false, true, length, ◌++�
 use Rattle.attr_keys.specs.shared.Meeting.{key_content}
 use Rattle.std.proofs.lemmas.Bool.Decides.{nat_tests}
 use Rattle.std.proofs.lemmas.List.{map-append}
-use Rattle.attr_keys.specs.inner.Hashes.{IsHashed}
+use Rattle.attr_keys.specs.inner.Buckets.{IsHashed}
 use Rattle.attr_keys.specs.inner.Kinds.{AreKinds, kind_rows, rows_with}
 use Rattle.attr_keys.proofs.Meetings.{lower_content}
 use Rattle.attr_keys.proofs.Sorting.{kind_rows_same, kinds_more}
@@ -17,8 +17,7 @@ returns-in_ok-add-clause-kinds g c = λ keys are.
     let row : c.len-row.result ≡ length keys = grind (arith, nat_tests, c.len-row.ensures, are.kinds.counted) in
     let lacks : c.in_ok-push.field-0 ≡ false = grind (arith, nat_tests, c.if-not-branch.true) in
     let kinds = kinds_more old.fold keys more old.hashed hashed (λ s. kind_rows s old) (λ s. kind_rows s c.add.new.self) c.in_ok-push.field-0
-    are.kinds c.in_ok-push.ensures.counted (c.in_ok-push.ensures.bounded are.kinds.bounded)
-    (c.in_ok-push.ensures.kept are.kinds.bounded)
+    are.kinds c.in_ok-push.ensures.counted c.in_ok-push.ensures.kept
     (λ put. let no : false ≡ true = sym lacks ∙ put in absurd cc)
     (λ put. let no : false ≡ true = sym lacks ∙ put in absurd cc)
     (λ fails s. c.in_ok-add.ensures.rows s
@@ -46,8 +45,7 @@ returns-else-not-branch-clause-kinds g c = λ keys are.
     let put : c.in_ok-push.field-0 ≡ true = grind (arith, nat_tests, c.if-not-branch.false) in
     record {
       kinds = kinds_more old.fold keys more old.hashed hashed (λ s. kind_rows s old) _ c.in_ok-push.field-0
-          are.kinds c.in_ok-push.ensures.counted (c.in_ok-push.ensures.bounded are.kinds.bounded)
-          (c.in_ok-push.ensures.kept are.kinds.bounded)
+          are.kinds c.in_ok-push.ensures.counted c.in_ok-push.ensures.kept
           (λ is. subst (λ k. IsHashed old.fold k hashed (length keys)) c.key-key.ensures
           (subst (IsHashed old.fold (key_content c.key-key.result) hashed) are.kinds.counted (c.in_ok-push.ensures.put is)))
           (λ is s. kind_rows_same s old _ refl refl refl refl)
