@@ -1,16 +1,11 @@
 -- Numbers by key: the greatest with a key, after one more and after one less.
 use Rattle.std.proofs.lemmas.Bool.Decides.{eqb_tells}
 use Rattle.std.proofs.Common.{◌≡◌, ◌≢◌, ℕ, suc, ◌+◌, ◌<◌, ◌≤◌, ◌⊎◌, inl, inr, true, false, cond, List, [], ◌∷◌, ◌++◌, length, get_or, Option}
-use Rattle.std.proofs.Common.{Some, None, refl, sym, ap, subst, ◌∙◌, arith, eq-eqb, nat_eq}
-use Rattle.std.specs.Prelude.{Contains, MatchOption, ⊤, ◌↔◌, IsTrue, is_none, slice_get}
-use Rattle.std.specs.List.{AllPairs, IsDistinct, list_all}
-use Rattle.std.specs.Bool.{Decides}
-use Rattle.std.proofs.lemmas.Bool.{eqb-true}
-use Rattle.std.proofs.lemmas.List.Sums.{AllPass-from_list_all, list_all-from_AllPass}
-use Rattle.std.proofs.lemmas.Map.Made.{AllPairs-from_IsDistinct, IsDistinct-from_AllPairs}
-use Rattle.std.proofs.lemmas.List.{get_or-map, length-append, length-map}
+use Rattle.std.proofs.Common.{Some, None, refl, sym, ap, subst, ◌∙◌, arith, nat_eq}
+use Rattle.std.specs.Prelude.{Contains, MatchOption, ⊤, slice_get}
+use Rattle.std.proofs.lemmas.List.{length-append, length-map}
 use Rattle.std.proofs.lemmas.List.Elements.{Contains-append_left, Contains-push}
-use Rattle.std.proofs.lemmas.Option.{IfSome_then, get_or_from_slice_get, same_Some, slice_get-get_or, slice_get-map, slice_get_read, slice_get_within}
+use Rattle.std.proofs.lemmas.Option.{IfSome_then, same_Some, slice_get-map, slice_get_read, slice_get_within}
 use Rattle.attr_search.specs.declared.numbers_by_key.Link.{Link}
 use Rattle.attr_search.specs.inner.KeyLinks.{IsLatest}
 use Rattle.attr_search.specs.inner.NumbersView.{AreLatest, LeadOn, link_keys}
@@ -160,43 +155,3 @@ walk_shorter links link number lead is = smaller_earlier (link_keys links) numbe
 pub last_present : (all links : List Link) (link : Link) (latest : ℕ → Option ℕ) → all ≡ links ++ link ∷ [] → AreLatest all latest →
     latest link.key ≡ None → ⊥
 last_present all links link latest whole l none = grind (arith, length_more links link, keys_seam links link)
-
--- keys of which no two are the same have no earlier number, and the other way round
-same_tells : (a b : ℕ) → Decides (nat_eq a b) (a ≡ b)
-same_tells a b = (eqb-true a b, eq-eqb a b)
-
-alone : (option : Option ℕ) → is_none option ≡ true → option ≡ None
-alone option is = grind arith
-
-first_of_key : (keys : List ℕ) (bound key : ℕ) (latest : Option ℕ) → IsLatest keys bound key latest → latest ≡ None → (number : ℕ) → number < bound →
-    slice_get keys number ≡ Some key → ⊥
-first_of_key keys bound key latest l none number lt has = grind arith
-
-unlinked_differ : (links : List Link) → LeadOn links → list_all (λ (l : Link). is_none l.earlier) links ≡ true →
-    AllPairs (λ x y. x ≢ y) (link_keys links)
-unlinked_differ links lead all i j d lt below same =
-    let long = length-map links (λ (l : Link). l.key) in
-    let link = get_or links j (record { key = d; earlier = None }) in
-    let has = slice_get-get_or links j (record { key = d; earlier = None }) (omega (arith, below, long)) in
-    let own : get_or (link_keys links) j d ≡ link.key = grind (arith, get_or-map) in
-    let unlinked = alone link.earlier (AllPass-from_list_all (λ (l : Link). is_none l.earlier) links all j (record { key = d; earlier = None })
-    (omega (arith, below, long))) in
-    first_of_key (link_keys links) j link.key link.earlier (lead j link has) unlinked i lt
-    (slice_get-get_or (link_keys links) i d (omega (arith, lt, below)) ∙ ap Some (same ∙ own))
-
-linked_same : (keys : List ℕ) (bound key : ℕ) (latest : Option ℕ) → MatchOption latest ⊤ (λ n. (n < bound) × (slice_get keys n ≡ Some key)) →
-    AllPairs (λ x y. x ≢ y) keys → slice_get keys bound ≡ Some key → is_none latest ≡ true
-linked_same keys bound key latest has differ is = grind (arith, slice_get_within, get_or_from_slice_get)
-
-one_unlinked : (links : List Link) (link : Link) (number : ℕ) → LeadOn links → AllPairs (λ x y. x ≢ y) (link_keys links) →
-    slice_get links number ≡ Some link → is_none link.earlier ≡ true
-one_unlinked links link number lead differ is = grind (arith, linked_same, slice_get-map, lead number link is)
-
-pub unlinked_distinct : (links : List Link) → LeadOn links →
-    IsTrue (list_all (λ (l : Link). is_none l.earlier) links) ↔ IsDistinct nat_eq (link_keys links)
-unlinked_distinct links lead = (
-  λ all. IsDistinct-from_AllPairs same_tells (link_keys links) (unlinked_differ links lead all),
-  λ distinct. list_all-from_AllPass (λ (l : Link). is_none l.earlier) links
-      (λ k d lt. one_unlinked links (get_or links k d) k lead (AllPairs-from_IsDistinct same_tells (link_keys links) distinct)
-      (slice_get-get_or links k d lt)),
-)

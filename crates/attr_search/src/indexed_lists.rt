@@ -1,7 +1,7 @@
 //! The lists of a search, found by the directories below which they apply.
 
 ghost use Rattle.std.specs.Prelude.{◌≡◌, ◌≢◌, ◌↔◌, ◌<◌, ◌≤◌, ℕ, List, Contains, [], ◌∷◌, ◌++◌, IfSome, IfNone, IfOk, OnOk, IsTrue, length, map, nat_eq, true, vec_capacity, vec_len};
-ghost use Rattle.std.specs.List.{IsDistinct};
+ghost use Rattle.std.specs.List.{IsDistinct, list_any};
 ghost use Rattle.attr_wildmatch.specs.declared.case.Case.TheVariants.{Sensitive, Fold};
 ghost use Rattle.attr_search.specs.inner.BaseKeys.{HaveRoots, base_keys, is_rooted, longest_base};
 ghost use Rattle.attr_search.specs.inner.DirectoryKeys.{GathersDirectories, Includes};
@@ -33,16 +33,12 @@ pub struct IndexedLists {
     /// The numbers of the lists whose base is no directory, which may apply to all paths.
     #[derive_where(skip)]
     pub roots: Vec<usize>,
-    /// The numbers of the lists, by their list ids.
-    #[derive_where(skip)]
-    pub by_id: NumbersByKey,
     /// No base is longer, in bytes.
     #[derive_where(skip)]
     pub longest: usize,
     ghost spelling: { spelled.keys ≡ base_keys Sensitive lists.items },
     ghost folding: { folded.keys ≡ base_keys Fold lists.items },
     ghost rooted: { HaveRoots lists.items roots.items },
-    ghost registered: { by_id.keys ≡ list_ids_of lists.items },
     ghost within: { longest_base lists.items ≤ longest },
 }
 
@@ -54,7 +50,6 @@ impl Drop for IndexedLists {
             spelled: _,
             folded: _,
             roots: _,
-            by_id: _,
             longest: _,
         } = self;
     }
@@ -73,7 +68,6 @@ impl IndexedLists {
             spelled: NumbersByKey::new(alloc),
             folded: NumbersByKey::new(alloc),
             roots: Vec::new(alloc),
-            by_id: NumbersByKey::new(alloc),
             longest: 0,
         }
     }
@@ -89,7 +83,6 @@ impl IndexedLists {
     {
         self.lists.reserve(1)?;
         self.roots.reserve(1)?;
-        self.by_id.reserve()?;
         self.spelled.reserve()?;
         self.folded.reserve()
     }
@@ -101,7 +94,6 @@ impl IndexedLists {
     {
         self.longest = self.longest.max(base_text(&list.list.base).len());
         push_root(&mut self.roots, &list, self.lists.len());
-        self.by_id.push_reserved(list.list_id as u64);
         self.spelled.push_reserved(list.base_keys.spelled);
         self.folded.push_reserved(list.base_keys.folded);
         self.lists.push_reserved(list);
@@ -117,16 +109,24 @@ impl IndexedLists {
         let last = self.lists.pop()?;
         self.spelled.pop();
         self.folded.pop();
-        self.by_id.pop();
         pop_root(&mut self.roots, self.lists.len());
         Some(last)
     }
 
-    /// Whether no two lists have the same list id. It takes a step for each list.
+    /// Whether no two lists have the same list id. It takes a step for each list as long as the ids ascend, as those of one collection
+    /// do, and then a step for each two lists.
     pub fn are_ids_distinct(&self) -> bool
         ensures { IsTrue result ↔ IsDistinct nat_eq (list_ids_of self.now.lists.items) }
     {
-        self.by_id.are_keys_distinct()
+        let mut ascend = true;
+        for index in 1..self.lists.len() {
+            let list_id = self.lists[index].list_id;
+            ascend = ascend && self.lists[index - 1].list_id < list_id;
+            if !ascend && has_id(&self.lists[..index], list_id) {
+                return false;
+            }
+        }
+        true
     }
 
     /// A copy: each list has the same number.
@@ -204,6 +204,13 @@ impl IndexedLists {
             }
         }
     }
+}
+
+// Whether a list has this list id.
+fn has_id(lists: &[IndexedList], list_id: usize) -> bool
+    ensures { result ≡ list_any (λ list. nat_eq list.list_id list_id) lists.now }
+{
+    lists.iter().any(|list| list.list_id == list_id)
 }
 
 // Appends the numbers that have the key of a directory in front of the text.

@@ -1,7 +1,6 @@
 //! Numbers 0, 1, 2 and so on, each with a key, and which of them have the same key.
 
-ghost use Rattle.std.specs.Prelude.{◌≡◌, ◌↔◌, ◌-◌, ◌<◌, [], ◌∷◌, ◌++◌, OnOk, IsTrue, is_none, length, nat_eq, take};
-ghost use Rattle.std.specs.List.{IsDistinct, list_all};
+ghost use Rattle.std.specs.Prelude.{◌≡◌, ◌-◌, ◌<◌, [], ◌∷◌, ◌++◌, OnOk, length, take};
 ghost use Rattle.attr_search.specs.inner.KeyLinks.{AppendsKeyed};
 
 use std::alloc::{AllocError, Global};
@@ -89,13 +88,6 @@ impl NumbersByKey {
         }
     }
 
-    /// Whether no two numbers have the same key. It takes a step for each number.
-    pub fn are_keys_distinct(&self) -> bool
-        ensures { IsTrue result ↔ IsDistinct nat_eq self.now.keys }
-    {
-        have_none_earlier(&self.links)
-    }
-
     /// Appends the numbers that have a key.
     ///
     /// # Errors
@@ -111,11 +103,4 @@ impl NumbersByKey {
         }
         Ok(())
     }
-}
-
-// Whether no number has the key of an earlier one.
-fn have_none_earlier(links: &[Link]) -> bool
-    ensures { result ≡ list_all (λ link. is_none link.earlier) links.now }
-{
-    links.iter().all(|link| link.earlier.is_none())
 }

@@ -13,7 +13,6 @@ pub record HasListRoom (lists : IndexedLists) : Type 0 where
   pub spelled : 0 < lists.spelled.room
   pub folded : 0 < lists.folded.room
   pub root : vec_len lists.roots < vec_capacity lists.roots
-  pub list_id : 0 < lists.by_id.room
 
 -- each list that has a line for paths and applies to the path is among those with these numbers, which don't fall
 pub record AreListsFor (case : Case) (path : List ℕ) (lists : List IndexedList) (numbers : List ℕ) : Type 0 where

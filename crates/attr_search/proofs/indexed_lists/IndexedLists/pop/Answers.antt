@@ -16,6 +16,5 @@ invariant_of-self-2 c =
       folding = c.pop-3.ensures ∙ mapped_popped (key_in Fold) lists.folded.keys lists.lists.items left last lists.folding whole;
       rooted = roots_popped lists.lists.items left last lists.roots.items c.pop_root.new.roots.items whole lists.rooted
           (λ other ne. c.pop_root.ensures other (λ same. ne (same ∙ count)));
-      registered = grind (arith, mapped_popped, c.pop-4.ensures);
       within = longest_popped left last lists.longest (subst (λ ls. longest_base ls ≤ lists.longest) whole lists.within);
     }
