@@ -1,5 +1,5 @@
 -- The lists that apply to a path are found by the keys of its directories.
-use Rattle.std.proofs.Common.{◌≡◌, ◌≢◌, ◌&&◌, map, not, ℕ, zero, suc, ◌+◌, ◌-◌, ◌<◌, ◌≤◌, inl, inr, true, false, List, [], ◌∷◌, ◌++◌, length}
+use Rattle.std.proofs.Common.{◌≡◌, ◌≢◌, map, ℕ, zero, suc, ◌+◌, ◌-◌, ◌<◌, ◌≤◌, inl, inr, false, List, [], ◌∷◌, ◌++◌, length}
 use Rattle.std.proofs.Common.{take, drop, min, Option, Some, None, refl, sym, ap, subst, ◌∙◌, arith}
 use Rattle.std.specs.Prelude.{Contains, option_map, slice_get, slice_index}
 use Rattle.std.specs.Char.{is_ascii_uppercase}
@@ -13,10 +13,9 @@ use Rattle.std.proofs.lemmas.List.Sorted.{IsNonDecreasingBy-from_default}
 use Rattle.std.proofs.lemmas.List.{get_or-map, get_or-take, length-append, length-map, length-take, map-append, take-map, take-take}
 use Rattle.std.proofs.lemmas.List.Sums.{fold-append}
 use Rattle.std.proofs.lemmas.Option.{slice_get-map, slice_get_within, same_Some}
-use Rattle.std.proofs.lemmas.Bool.{eqb-true, or_parts}
-use Rattle.std.proofs.lemmas.Cmp.{nat_eq_equiv}
-use Rattle.std.proofs.lemmas.Map.Views.{Contains-from_any, list_any-from_Contains}
+use Rattle.std.proofs.lemmas.Bool.{or_parts}
 use Rattle.std.proofs.lemmas.Slice.Eq.{bytes_eq-Decides}
+use Rattle.attr_wildmatch.proofs.ForCallers.{by_test}
 use Rattle.attr_glob.specs.Bases.{rest_below}
 use Rattle.attr_wildmatch.specs.Bytes.{slash}
 use Rattle.attr_glob.specs.Folding.{folded}
@@ -24,12 +23,12 @@ use Rattle.attr_glob.specs.Views.{base_bytes}
 use Rattle.attr_wildmatch.specs.declared.case.Case.{Case}
 use Rattle.attr_wildmatch.specs.declared.case.Case.TheVariants.{Fold}
 use Rattle.attr_search.specs.declared.indexed_list.IndexedList.{IndexedList}
-use Rattle.attr_search.specs.inner.BaseKeys.{HaveRoots, base_keys, is_rooted, key_in, longest_base, text_of_base}
-use Rattle.attr_search.proofs.KeyedLemmas.{below_or, get_front, get_seam}
+use Rattle.attr_search.specs.inner.BaseKeys.{base_keys, directory_of, key_in, longest_base}
+use Rattle.attr_search.proofs.KeyedLemmas.{below_or}
 use Rattle.attr_search.specs.inner.Counting.{CountUp}
 use Rattle.attr_search.specs.inner.FoundLists.{AreListsFor}
 use Rattle.attr_wildmatch.specs.Slashes.{ends_in_slash}
-use Rattle.attr_search.specs.inner.DirectoryKeys.{GathersDirectories, HasNumbersOf, Includes, base_text, keys_of, text_key}
+use Rattle.attr_search.specs.inner.DirectoryKeys.{GathersDirectories, HasNumbersOf, Includes, base_directory, keys_of, text_key}
 
 -- what lists have, after one more and after one less
 pub mapped_pushed : {X : Type 0} (f : X → ℕ) (keys : List ℕ) (xs : List X) (x : X) → keys ≡ map f xs →
@@ -42,7 +41,7 @@ mapped_popped f keys all xs x is whole =
     grind (arith, map-append f xs (x ∷ []), length-append (map f xs) (f x ∷ []), take-append_seam (map f xs) (f x ∷ []))
 
 pub longest_pushed : (lists : List IndexedList) (list : IndexedList) (longest : ℕ) → longest_base lists ≤ longest →
-    length (text_of_base list) ≤ longest → longest_base (lists ++ list ∷ []) ≤ longest
+    length (directory_of list) ≤ longest → longest_base (lists ++ list ∷ []) ≤ longest
 longest_pushed [] list longest le own = omega (arith, own)
 longest_pushed (l ∷ lists) list longest le own = grind (arith, longest_pushed lists list longest)
 
@@ -51,31 +50,9 @@ pub longest_popped : (lists : List IndexedList) (list : IndexedList) (longest : 
 longest_popped [] list longest le = omega arith
 longest_popped (l ∷ lists) list longest le = grind (arith, longest_popped lists list longest)
 
-pub root_found : (lists : List IndexedList) (roots : List ℕ) (number : ℕ) (list : IndexedList) → HaveRoots lists roots →
-    slice_get lists number ≡ Some list → is_rooted list ≡ true → Contains roots number
-root_found lists roots number list have has rooted = Contains-from_any eqb-true number roots (have number list has rooted)
-
-pub roots_pushed : (lists : List IndexedList) (list : IndexedList) (roots more : List ℕ) → HaveRoots lists roots → Includes roots more →
-    (is_rooted list ≡ true → Contains more (length lists)) → HaveRoots (lists ++ list ∷ []) more
-roots_pushed lists list roots more have kept own = λ number other has rooted.
-    let lt = slice_get_within (lists ++ list ∷ []) number other has in
-    let long = length-append lists (list ∷ []) in
-    list_any-from_Contains nat_eq_equiv number more (elim (below_or number (length lists) (omega (arith, lt, long))) [
-      | inl less ↦ kept number (root_found lists roots number other have (sym (get_front lists (list ∷ []) number less) ∙ has) rooted)
-      | inr same ↦ grind (arith, same_Some, get_seam)
-    ])
-
-pub roots_popped : (all lists : List IndexedList) (last : IndexedList) (roots fewer : List ℕ) → all ≡ lists ++ last ∷ [] →
-    HaveRoots all roots → ((other : ℕ) → other ≢ length lists → Contains roots other → Contains fewer other) → HaveRoots lists fewer
-roots_popped all lists last roots fewer whole have kept = λ number list has rooted.
-    let lt = slice_get_within lists number list has in
-    let there = ap (λ ls. slice_get ls number) whole ∙ get_front lists (last ∷ []) number lt ∙ has in
-    list_any-from_Contains nat_eq_equiv number fewer
-    (kept number (λ same. omega (arith, same, lt)) (root_found all roots number list have there rooted))
-
 -- no base is longer
 pub one_within : (lists : List IndexedList) (number : ℕ) (list : IndexedList) (longest : ℕ) → slice_get lists number ≡ Some list →
-    longest_base lists ≤ longest → length (text_of_base list) ≤ longest
+    longest_base lists ≤ longest → length (directory_of list) ≤ longest
 one_within (l ∷ lists) (suc number) list longest is le = one_within lists number list longest is (omega (arith, le))
 one_within lists number list longest is le = grind (arith, slice_get_within, same_Some)
 
@@ -89,7 +66,10 @@ pub hashed_none : (hasher : DefaultHasher) → hasher ≡ sip.initial → hasher
 unfolding sip.write
 hashed_none hasher is = is
 
--- one more offset
+-- the empty directory, and then one more offset
+pub gathered_none : (keys text found : List ℕ) → HasNumbersOf keys found (text_key []) → GathersDirectories keys text 0 found
+gathered_none keys text found own = record { empty = own; below = λ offset lt. absurd (omega (arith, lt)) }
+
 pub gathered_on : (keys text : List ℕ) (k : ℕ) (found more : List ℕ) → GathersDirectories keys text k found → Includes found more →
     HasNumbersOf keys more (text_key (take (k + 1) text)) → GathersDirectories keys text (k + 1) more
 gathered_on keys text k found more gathers kept own = grind (arith, below_or)
@@ -106,8 +86,8 @@ pub same_keys : (base : List ℕ) (key : ℕ) → key ≡ text_key base → list
     record { spelled = key; folded = key } ≡ keys_of base
 same_keys base key is none = grind (arith, small_same)
 
-key_of : (case : Case) (list : IndexedList) → list.base_keys ≡ keys_of (text_of_base list)
-    → key_in case list ≡ text_key (folded case (text_of_base list))
+key_of : (case : Case) (list : IndexedList) → list.base_keys ≡ keys_of (directory_of list)
+    → key_in case list ≡ text_key (folded case (directory_of list))
 key_of case list is = grind arith
 
 -- where a text has a directory
@@ -117,13 +97,18 @@ pub record EndsAt (directory text : List ℕ) : Type 0 where
   pub ends : slice_index text offset ≡ slash
   pub same : directory ≡ take (offset + 1) text
 
+-- a directory ends in a slash, unless it is the empty one
+no_directory : (base : Option (List ℕ)) (case : Case) →
+    slice_index (base_directory base) (length (base_directory base) - 1) ≢ slash → folded case (base_directory base) ≡ []
+no_directory None case other = grind arith
+no_directory (Some base) case other = by_test (ends_in_slash base) (λ t. absurd (grind (arith, t, other))) (λ f. grind (arith, f))
+
 -- a base that is a directory, in the front of a path below it
-pub base_ends : (base : Option (List ℕ)) (case : Case) (path rest : List ℕ) (longest : ℕ) → length (base_text base) ≤ longest →
-    slice_index (base_text base) (length (base_text base) - 1) ≡ slash → rest_below base case path ≡ Some rest →
-    EndsAt (folded case (base_text base)) (folded case (take (min (length path) longest) path))
-base_ends None case path rest longest le ends is = absurd (omega (arith, ends))
-base_ends (Some []) case path rest longest le ends is = absurd (omega (arith, ends))
-base_ends (Some (b ∷ bs)) case path rest longest le ends is = grind (
+text_ends : (base : List ℕ) (case : Case) (path rest : List ℕ) (longest : ℕ) → length base ≤ longest →
+    slice_index base (length base - 1) ≡ slash → rest_below (Some base) case path ≡ Some rest →
+    EndsAt (folded case base) (folded case (take (min (length path) longest) path))
+text_ends [] case path rest longest le ends is = absurd (omega (arith, ends))
+text_ends (b ∷ bs) case path rest longest le ends is = grind (
   arith,
   bytes_eq-Decides (folded case (b ∷ bs)) (folded case (take (length (b ∷ bs)) path)),
   length-map,
@@ -135,22 +120,33 @@ base_ends (Some (b ∷ bs)) case path rest longest le ends is = grind (
   get_or-map,
 )
 
+base_ends : (base : Option (List ℕ)) (case : Case) (path rest : List ℕ) (longest : ℕ) → length (base_directory base) ≤ longest →
+    slice_index (base_directory base) (length (base_directory base) - 1) ≡ slash → rest_below base case path ≡ Some rest →
+    EndsAt (folded case (base_directory base)) (folded case (take (min (length path) longest) path))
+base_ends None case path rest longest le ends is = absurd (omega (arith, ends))
+base_ends (Some base) case path rest longest le ends is =
+    by_test (ends_in_slash base)
+    (λ t. let own : base ≡ base_directory (Some base) = grind (arith, t) in
+    subst (λ d. EndsAt (folded case d) (folded case (take (min (length path) longest) path))) own
+    (text_ends base case path rest longest (omega (arith, le, ap length own)) (grind (arith, ends, own)) is))
+    (λ f. absurd (grind (arith, f, ends)))
+
 -- a list that applies to the path is found
-pub list_found : (lists : List IndexedList) (roots path found rest : List ℕ) (longest : ℕ) (case : Case) (number : ℕ) (list : IndexedList) →
-    HaveRoots lists roots → longest_base lists ≤ longest → Includes roots found →
+pub list_found : (lists : List IndexedList) (path found rest : List ℕ) (longest : ℕ) (case : Case) (number : ℕ) (list : IndexedList) →
+    longest_base lists ≤ longest →
     GathersDirectories (base_keys case lists) (folded case (take (min (length path) longest) path))
     (length (folded case (take (min (length path) longest) path))) found →
     slice_get lists number ≡ Some list → list.is_idle ≡ false → rest_below (base_bytes list.list.base) case path ≡ Some rest →
     Contains found number
-list_found lists roots path found rest longest case number list have le kept gathers has busy applies =
-    elim (eqb_tells (slice_index (text_of_base list) (length (text_of_base list) - 1)) slash) [
+list_found lists path found rest longest case number list le gathers has busy applies =
+    let keyed : slice_get (base_keys case lists) number ≡ Some (text_key (folded case (directory_of list))) =
+    slice_get-map (key_in case) lists number ∙ ap (option_map (key_in case)) has ∙ ap Some (key_of case list (list.based busy)) in
+    elim (eqb_tells (slice_index (directory_of list) (length (directory_of list) - 1)) slash) [
       | inl ends ↦
           let at = base_ends (base_bytes list.list.base) case path rest longest (one_within lists number list longest has le) ends.1 applies in
-          gathers at.offset at.within at.ends number
-          (slice_get-map (key_in case) lists number ∙ ap (option_map (key_in case)) has
-          ∙ ap Some (key_of case list (list.based busy) ∙ ap text_key at.same))
-      | inr other ↦ kept number (root_found lists roots number list have has
-          (ap (λ idle. not idle && not (ends_in_slash (text_of_base list))) busy ∙ ap not other.0))
+          gathers.below at.offset at.within at.ends number (keyed ∙ ap (λ t. Some (text_key t)) at.same)
+      | inr other ↦
+          gathers.empty number (keyed ∙ ap (λ t. Some (text_key t)) (no_directory (base_bytes list.list.base) case other.1))
     ]
 
 pub few_counted : (n : ℕ) → n ≤ 4 → CountUp n (take n (0 ∷ 1 ∷ 2 ∷ 3 ∷ []))

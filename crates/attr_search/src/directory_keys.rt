@@ -6,7 +6,7 @@ ghost use Rattle.std.specs.List.{list_any};
 ghost use Rattle.attr_wildmatch.specs.declared.case.Case.TheVariants.{Fold};
 ghost use Rattle.attr_glob.specs.Folding.{folded};
 ghost use Rattle.attr_glob.specs.Views.{base_bytes};
-ghost use Rattle.attr_search.specs.inner.DirectoryKeys.{base_text, keys_of, short_key, text_key};
+ghost use Rattle.attr_search.specs.inner.DirectoryKeys.{base_directory, keys_of, short_key, text_key};
 ghost use Rattle.attr_search.specs.inner.FrontHashers.{HasFront};
 
 use std::alloc::{AllocError, Global};
@@ -46,13 +46,14 @@ impl BaseKeys {
     }
 }
 
-/// The text of a base, which is empty if there is none.
-pub fn base_text(base: &Option<Vec<u8>>) -> &[u8]
-    ensures { result.now ≡ base_text (base_bytes base.now) }
+/// The directory by which a list with this base is found: the base, if it ends in a slash. Without one, and with any other base, it is
+/// empty, and each path finds the list.
+pub fn base_directory(base: &Option<Vec<u8>>) -> &[u8]
+    ensures { result.now ≡ base_directory (base_bytes base.now) }
 {
     match base {
-        Some(base) => base,
-        None => b"",
+        Some(base) if base.last() == Some(&b'/') => base,
+        _ => b"",
     }
 }
 

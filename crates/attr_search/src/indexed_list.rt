@@ -8,14 +8,14 @@ ghost use Rattle.attr_glob.specs.Paths.{path_matches};
 ghost use Rattle.attr_search.specs.inner.EntryAt.{entry_at};
 ghost use Rattle.attr_search.specs.inner.Trying.{AreTried};
 ghost use Rattle.attr_glob.specs.Views.{base_bytes, pattern_view, patterns_of};
-ghost use Rattle.attr_search.specs.inner.DirectoryKeys.{base_text, keys_of};
+ghost use Rattle.attr_search.specs.inner.DirectoryKeys.{base_directory, keys_of};
 ghost use Rattle.attr_lists.specs.Definitions.{HoldsList, IsSoundCollection, RegistersAs};
 ghost use Rattle.attr_lists.specs.ListViews.{entries_view};
 ghost use Rattle.attr_search.specs.shared.ReadLines.{AreRead};
 ghost use Rattle.attr_glob.specs.Indexed.{indexed_lines, listed_lines};
 ghost use Rattle.attr_lists.specs.shared.Keeping.{IsNumbered};
 
-use crate::directory_keys::{BaseKeys, base_text};
+use crate::directory_keys::{BaseKeys, base_directory};
 use crate::path_query::PathQuery;
 use attr_glob::Pattern;
 use attr_glob::pattern::base_name;
@@ -55,13 +55,12 @@ pub struct IndexedList {
     pub is_idle: bool,
     ghost lines: { indexed_lines index.value.lines.items ≡ listed_lines list.patterns.items },
     ghost source: { option_map string_bytes index.value.source ≡ option_map string_bytes list.source },
-    ghost based: { is_idle ≡ false → base_keys ≡ keys_of (base_text (base_bytes list.base)) },
+    ghost based: { is_idle ≡ false → base_keys ≡ keys_of (base_directory (base_bytes list.base)) },
     ghost idle: { is_idle ≡ list_all has_macro_mode (patterns_of list.patterns.items) },
     ghost read: { ∥ AreRead (entries_view list.patterns.items) ∥₁ },
 }
 
 impl IndexedList {
-    ghost use Rattle.attr_search.specs.inner.BaseKeys.{is_rooted};
     ghost use Rattle.attr_search.specs.IndexedLists.{listed_view};
 
     /// Registers a list in the table, under a list id that no registered list has: its definitions of macros are active from
@@ -86,7 +85,7 @@ impl IndexedList {
         ensures refused { OnErr result (names.new ≡ names.old) }
     {
         let index = Rc::new(alloc, Index::of(alloc, &list)?)?;
-        let keys_of_base = BaseKeys::of(alloc, base_text(&list.base))?;
+        let keys_of_base = BaseKeys::of(alloc, base_directory(&list.base))?;
         let list_id = names.register(alloc, &list.patterns)?;
         let is_idle = are_macros(&list.patterns);
         let base_keys = if is_idle { IDLE_KEYS } else { keys_of_base };
@@ -97,13 +96,6 @@ impl IndexedList {
             base_keys,
             is_idle,
         })
-    }
-
-    /// Whether the list has lines for paths, and none of a path's directories leads to it, since its base is none.
-    pub fn is_rooted(&self) -> bool
-        ensures { result ≡ is_rooted self.now }
-    {
-        !self.is_idle && base_text(&self.list.base).last() != Some(&b'/')
     }
 
     /// Finds the indexes, from 0, of the lines that may match what is left of a path, the greatest first. They replace

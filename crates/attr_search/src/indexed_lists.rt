@@ -3,13 +3,13 @@
 ghost use Rattle.std.specs.Prelude.{◌≡◌, ◌≢◌, ◌↔◌, ◌<◌, ◌≤◌, ℕ, List, Contains, [], ◌∷◌, ◌++◌, IfSome, IfNone, IfOk, OnOk, IsTrue, length, map, nat_eq, true, vec_capacity, vec_len};
 ghost use Rattle.std.specs.List.{IsDistinct, list_any};
 ghost use Rattle.attr_wildmatch.specs.declared.case.Case.TheVariants.{Sensitive, Fold};
-ghost use Rattle.attr_search.specs.inner.BaseKeys.{HaveRoots, base_keys, is_rooted, longest_base};
-ghost use Rattle.attr_search.specs.inner.DirectoryKeys.{GathersDirectories, Includes};
+ghost use Rattle.attr_search.specs.inner.BaseKeys.{base_keys, longest_base};
+ghost use Rattle.attr_search.specs.inner.DirectoryKeys.{GathersDirectories};
 ghost use Rattle.attr_glob.specs.Folding.{folded};
 ghost use Rattle.attr_search.specs.IndexedLists.{listed_view, list_ids_of};
 ghost use Rattle.attr_wildmatch.specs.declared.case.Case.{Case};
 
-use crate::directory_keys::{FrontHasher, base_text, fold_into};
+use crate::directory_keys::{FrontHasher, base_directory, fold_into};
 use crate::indexed_list::IndexedList;
 use crate::numbers_by_key::NumbersByKey;
 use attr_glob::pattern::Case;
@@ -30,15 +30,11 @@ pub struct IndexedLists {
     /// The same by the keys of their bases in lower case.
     #[derive_where(skip)]
     pub folded: NumbersByKey,
-    /// The numbers of the lists whose base is no directory, which may apply to all paths.
-    #[derive_where(skip)]
-    pub roots: Vec<usize>,
     /// No base is longer, in bytes.
     #[derive_where(skip)]
     pub longest: usize,
     ghost spelling: { spelled.keys ≡ base_keys Sensitive lists.items },
     ghost folding: { folded.keys ≡ base_keys Fold lists.items },
-    ghost rooted: { HaveRoots lists.items roots.items },
     ghost within: { longest_base lists.items ≤ longest },
 }
 
@@ -49,7 +45,6 @@ impl Drop for IndexedLists {
             lists: _,
             spelled: _,
             folded: _,
-            roots: _,
             longest: _,
         } = self;
     }
@@ -67,7 +62,6 @@ impl IndexedLists {
             lists: Vec::new(alloc),
             spelled: NumbersByKey::new(alloc),
             folded: NumbersByKey::new(alloc),
-            roots: Vec::new(alloc),
             longest: 0,
         }
     }
@@ -82,7 +76,6 @@ impl IndexedLists {
         ensures room { OnOk result (HasListRoom self.new) }
     {
         self.lists.reserve(1)?;
-        self.roots.reserve(1)?;
         self.spelled.reserve()?;
         self.folded.reserve()
     }
@@ -92,8 +85,7 @@ impl IndexedLists {
         requires { HasListRoom self.old }
         ensures { self.new.lists.items ≡ self.old.lists.items ++ list ∷ [] }
     {
-        self.longest = self.longest.max(base_text(&list.list.base).len());
-        push_root(&mut self.roots, &list, self.lists.len());
+        self.longest = self.longest.max(base_directory(&list.list.base).len());
         self.spelled.push_reserved(list.base_keys.spelled);
         self.folded.push_reserved(list.base_keys.folded);
         self.lists.push_reserved(list);
@@ -109,7 +101,6 @@ impl IndexedLists {
         let last = self.lists.pop()?;
         self.spelled.pop();
         self.folded.pop();
-        pop_root(&mut self.roots, self.lists.len());
         Some(last)
     }
 
@@ -178,13 +169,12 @@ impl IndexedLists {
         ensures { OnOk result (AreListsFor case path.now self.now.lists.items numbers.new.items) }
     {
         numbers.clear();
-        numbers.extend_from_slice(&self.roots)?;
         self.gather(&path[..path.len().min(self.longest)], case, small, numbers)?;
         numbers.sort_unstable();
         Ok(())
     }
 
-    // Appends the numbers of the lists whose key, in a case, a directory in front of the text has.
+    // Appends the numbers of the lists whose key, in a case, a directory in front of the text has, or the empty one.
     fn gather(
         &self,
         text: &[u8],
@@ -192,8 +182,7 @@ impl IndexedLists {
         small: &mut Vec<u8>,
         numbers: &mut Vec<usize>,
     ) -> Result<(), AllocError>
-        ensures kept { OnOk result (Includes numbers.old.items numbers.new.items) }
-        ensures found { OnOk result (let read = folded case text.now in GathersDirectories
+        ensures { OnOk result (let read = folded case text.now in GathersDirectories
             (base_keys case self.now.lists.items) read (length read) numbers.new.items) }
     {
         match case {
@@ -213,42 +202,21 @@ fn has_id(lists: &[IndexedList], list_id: usize) -> bool
     lists.iter().any(|list| list.list_id == list_id)
 }
 
-// Appends the numbers that have the key of a directory in front of the text.
+// Appends the numbers that have the key of a directory in front of the text, or of the empty one.
 fn append_directories(
     by_key: &NumbersByKey,
     text: &[u8],
     numbers: &mut Vec<usize>,
 ) -> Result<(), AllocError>
-    ensures kept { OnOk result (Includes numbers.old.items numbers.new.items) }
-    ensures found { OnOk result (GathersDirectories by_key.now.keys text.now (length text.now)
+    ensures { OnOk result (GathersDirectories by_key.now.keys text.now (length text.now)
         numbers.new.items) }
 {
     let mut front = FrontHasher::new();
+    by_key.append(front.key(text, 0), numbers)?;
     for offset in 0..text.len() {
         if text[offset] == b'/' {
             by_key.append(front.key(text, offset + 1), numbers)?;
         }
     }
     Ok(())
-}
-
-// Appends the number of a list that no directory leads to. There is room for it.
-fn push_root(roots: &mut Vec<usize>, list: &IndexedList, number: usize)
-    requires { vec_len roots.old < vec_capacity roots.old }
-    ensures kept { Includes roots.old.items roots.new.items }
-    ensures own { is_rooted list.now ≡ true → Contains roots.new.items number }
-{
-    if list.is_rooted() {
-        roots.push_reserved(number);
-    }
-}
-
-// Removes a number if it is the last one.
-fn pop_root(roots: &mut Vec<usize>, number: usize)
-    ensures { (other : ℕ) → other ≢ number → Contains roots.old.items other →
-        Contains roots.new.items other }
-{
-    if roots.last() == Some(&number) {
-        roots.pop();
-    }
 }

@@ -4,6 +4,7 @@ use Rattle.std.specs.Prelude.{if◌then◌else◌, ◌+◌, ◌*◌, ◌%◌, �
 use Rattle.std.specs.List.{fold}
 use Rattle.std.specs.Hash.DefaultHasher as sip
 use Rattle.attr_wildmatch.specs.Bytes.{slash}
+use Rattle.attr_wildmatch.specs.Slashes.{ends_in_slash}
 use Rattle.attr_wildmatch.specs.declared.case.Case.TheVariants.{Fold}
 use Rattle.attr_glob.specs.Folding.{folded}
 use Rattle.attr_search.specs.declared.directory_keys.BaseKeys.{BaseKeys}
@@ -16,10 +17,10 @@ short_key text = fold (λ number byte. (number * 256 % 2 ^ 64 + byte) % 2 ^ 64) 
 abbrev pub text_key : List ℕ → ℕ
 text_key text = if nat_le (length text) 8 then short_key text else sip.finish (sip.write sip.initial text)
 
--- the text of a base, which is empty if there is none
-abbrev pub base_text : Option (List ℕ) → List ℕ
-base_text None = []
-base_text (Some base) = base
+-- the directory by which a list with a base is found: the base, if it ends in a slash, and else the empty one
+abbrev pub base_directory : Option (List ℕ) → List ℕ
+base_directory None = []
+base_directory (Some base) = if ends_in_slash base then base else []
 
 abbrev pub keys_of : List ℕ → BaseKeys
 keys_of base = record { spelled = text_key base; folded = text_key (folded Fold base) }
@@ -32,7 +33,7 @@ Includes before after = (number : ℕ) → Contains before number → Contains a
 abbrev pub HasNumbersOf : List ℕ → List ℕ → ℕ → Type 0
 HasNumbersOf keys found key = (number : ℕ) → slice_get keys number ≡ Some key → Contains found number
 
--- and so are those that have the key of a directory that ends in the first part of the text
-abbrev pub GathersDirectories : List ℕ → List ℕ → ℕ → List ℕ → Type 0
-GathersDirectories keys text len found =
-    (offset : ℕ) → offset < len → slice_index text offset ≡ slash → HasNumbersOf keys found (text_key (take (offset + 1) text))
+-- and so are those that have the key of the empty directory, or of one that ends in the first part of the text
+pub record GathersDirectories (keys text : List ℕ) (len : ℕ) (found : List ℕ) : Type 0 where
+  pub empty : HasNumbersOf keys found (text_key [])
+  pub below : (offset : ℕ) → offset < len → slice_index text offset ≡ slash → HasNumbersOf keys found (text_key (take (offset + 1) text))

@@ -12,7 +12,6 @@ pub record HasListRoom (lists : IndexedLists) : Type 0 where
   pub list : vec_len lists.lists < vec_capacity lists.lists
   pub spelled : 0 < lists.spelled.room
   pub folded : 0 < lists.folded.room
-  pub root : vec_len lists.roots < vec_capacity lists.roots
 
 -- each list that has a line for paths and applies to the path is among those with these numbers, which don't fall
 pub record AreListsFor (case : Case) (path : List ℕ) (lists : List IndexedList) (numbers : List ℕ) : Type 0 where

@@ -17,5 +17,5 @@ pub invariant_of-result-clause-based : goal.invariant_of-result-clause-based
 invariant_of-result-clause-based c = λ busy.
     elim c.if-is_idle.branch [
       | then-is_idle w ↦ absurd (true≢false (sym w.if-is_idle.true ∙ busy))
-      | else-is_idle w ↦ w.base_keys-is ∙ c.in_ok-keys_of_base.ensures ∙ ap keys_of c.base_text.ensures
+      | else-is_idle w ↦ w.base_keys-is ∙ c.in_ok-keys_of_base.ensures ∙ ap keys_of c.base_directory.ensures
     ]

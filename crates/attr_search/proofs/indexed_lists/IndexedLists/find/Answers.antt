@@ -1,4 +1,4 @@
-use Rattle.std.proofs.Common.{arith, List, ℕ, ◌++◌, ◌∙◌, ap, length, subst, take}
+use Rattle.std.proofs.Common.{List, ℕ, length, subst, take}
 use Rattle.attr_glob.specs.Folding.{folded}
 use Rattle.attr_search.specs.inner.BaseKeys.{base_keys}
 use Rattle.attr_search.specs.inner.DirectoryKeys.{GathersDirectories}
@@ -12,13 +12,10 @@ returns c =
     let path = c.args.path.now in
     let Gathered : List ℕ → Type 0 = λ front.
     GathersDirectories (base_keys c.args.case lists.lists.items) front (length front) c.gather.new.numbers.items in
-    let rooted = c.in_ok-extend_from_slice.ensures.items ∙ ap (λ rs. c.clear.new.self.items ++ rs) c.deref.ensures.value in
     record {
       all = λ number list rest has busy applies. Contains-permutation _ _ number c.sort_unstable.ensures.permutation
-          (list_found lists.lists.items lists.roots.items c.args.path.now c.gather.new.numbers.items rest lists.longest c.args.case number list
-          lists.rooted lists.within
-          (λ root is. grind (arith, c.in_ok-gather.ensures.kept))
-          (subst (λ n. Gathered (folded c.args.case (take n path))) c.min.ensures c.in_ok-gather.ensures.found)
+          (list_found lists.lists.items c.args.path.now c.gather.new.numbers.items rest lists.longest c.args.case number list lists.within
+          (subst (λ n. Gathered (folded c.args.case (take n path))) c.min.ensures c.in_ok-gather.ensures)
           has busy applies);
       rising = IsNonDecreasingBy-from_sort (λ x. x) _ c.sort_unstable.ensures.sorted;
     }

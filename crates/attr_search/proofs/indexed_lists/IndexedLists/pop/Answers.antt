@@ -1,7 +1,7 @@
-use Rattle.std.proofs.Common.{◌≡◌, ◌≤◌, subst, ◌∙◌, arith, length}
+use Rattle.std.proofs.Common.{◌≤◌, subst, ◌∙◌}
 use Rattle.attr_wildmatch.specs.declared.case.Case.TheVariants.{Sensitive, Fold}
 use Rattle.attr_search.specs.inner.BaseKeys.{key_in, longest_base}
-use Rattle.attr_search.proofs.DirectoryLemmas.{longest_popped, mapped_popped, roots_popped}
+use Rattle.attr_search.proofs.DirectoryLemmas.{longest_popped, mapped_popped}
 use Rattle.attr_search.proofs.indexed_lists.IndexedLists.pop.Goals as goal
 
 pub invariant_of-self-2 : goal.invariant_of-self-2
@@ -10,11 +10,8 @@ invariant_of-self-2 c =
     let last = c.in_ok-last.last in
     let left = c.pop.new.self.items in
     let whole = c.in_ok-last.ensures.items in
-    let count : c.len.result ≡ length left = omega (arith, c.len.ensures, c.pop.new.self.ok) in
     record {
       spelling = c.pop-2.ensures ∙ mapped_popped (key_in Sensitive) lists.spelled.keys lists.lists.items left last lists.spelling whole;
       folding = c.pop-3.ensures ∙ mapped_popped (key_in Fold) lists.folded.keys lists.lists.items left last lists.folding whole;
-      rooted = roots_popped lists.lists.items left last lists.roots.items c.pop_root.new.roots.items whole lists.rooted
-          (λ other ne. c.pop_root.ensures other (λ same. ne (same ∙ count)));
       within = longest_popped left last lists.longest (subst (λ ls. longest_base ls ≤ lists.longest) whole lists.within);
     }
