@@ -12,7 +12,7 @@ use std::alloc::AllocError;
 ///
 /// # Errors
 ///
-/// If memory runs out. Nothing changes then.
+/// If memory runs out. The same rows are there then.
 pub fn put_in_order<K: Keyed>(keys: Keys<'_, K>, rows: &mut Vec<usize>) -> Result<(), AllocError>
     ensures rows { (row : ℕ) → has_row rows.new.items row ≡ has_row rows.old.items row }
     ensures order { OnOk result (AreInOrder (keys_seen K.content keys.entry) rows.new.items) }
