@@ -11,4 +11,3 @@ pub mod Sought
 pub mod Sorting
 pub mod Gathering
 pub mod ExtensionTexts
-pub mod Descending

@@ -86,7 +86,7 @@ leads : (fold : Bool) (text : List ℕ) (key : KeyContent) (hashed : HashedRows)
 leads fold text key hashed head row longest most at is same =
     let cased : length (in_case fold (natural key)) ≡ length (in_case fold text) = ap length same in
     let long : length text ≡ length key.text = grind (arith, nat_tests, length-in_case, length-reverse, cased) in
-    let own : head ≡ head_of hashed (text_hash (in_case fold text)) = at (omega (arith, long, is.short, most)) in
+    let own : head ≡ head_of hashed (text_hash (in_case fold text)) = at.is (omega (arith, long, is.short, most)) in
     subst (λ h. ∥ IsLed hashed.links.items h row ∥₁) (ap (λ t. head_of hashed (text_hash t)) same ∙ sym own) is.led
 
 -- a bucket, and then another one
@@ -102,15 +102,6 @@ then_more {Met = Met} {old = old} {new = new} {more = more} first next = (
 
     sound : (row : ℕ) → has_row more row ≡ true → (has_row old row ≡ true) ⊎ Met row
     sound row has = elim (next.sound row has) [ inl before ↦ first.sound row before | inr met ↦ inr met ]
-
--- a bucket that was looked through isn't again
-pub two_buckets : {Met : ℕ → Type 0} {links : List ℕ} {old new more : List ℕ} (head next : ℕ) → AppendsMet Met (IsLed links head) old new →
-    (AppendsMet Met (IsLed links next) new more) ⊎ ((head ≡ next) × (more ≡ new)) →
-    (AppendsMet Met (IsLed links head) old more) × (AppendsMet Met (IsLed links next) old more)
-two_buckets head next first (inl others) = then_more first others
-two_buckets {Met = Met} {links = links} {old = old} {more = more} head next first (inr same) =
-    let all = subst (λ rows. AppendsMet Met (IsLed links head) old rows) (sym same.1) first in
-    (all, subst (λ h. AppendsMet Met (IsLed links h) old more) same.0 all)
 
 -- the rows of the buckets of the three texts, among them all that are found by their hashes
 pub all_hashed : (texts : Texts) (hashed : HashedRows) (keys : List KeyContent) (name end path : ℕ) (old new : List ℕ) →
@@ -138,7 +129,7 @@ all_hashed texts hashed keys name end path old new n e p names ends paths = reco
         option_map (in_case texts.fold) (extension texts.name.now) ≡ Some (in_case texts.fold (natural key)) → has_row new row ≡ true
     of_end row met key is about None at same = absurd (grind (arith, nat_tests))
     of_end row met key is about (Some text) at same =
-        by_head row end met ends (leads texts.fold text key hashed end row hashed.longest_extension (grind arith) (e text at) is
+        by_head row end met ends (leads texts.fold text key hashed end row hashed.longest_extension (grind arith) (e.of text at) is
         (ap (λ o. unwrap_or o []) (sym same ∙ ap (option_map (in_case texts.fold)) at)))
 
     by_subject : (row : ℕ) → IsMet texts keys row → (key : KeyContent) → IsHashed texts.fold key hashed row →

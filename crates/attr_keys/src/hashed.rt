@@ -1,6 +1,6 @@
 //! Rows, which are indexes of lines, by the hashes of their keys: of whole keys, and of extensions.
 
-ghost use Rattle.std.specs.Prelude.{◌≡◌, ◌<◌, ◌≤◌, ◌+◌, [], ℕ, List, IfOk, IfSome, None, OnOk, Some, length, map, reverse, true};
+ghost use Rattle.std.specs.Prelude.{◌≡◌, ◌<◌, ◌≤◌, ◌+◌, ◌-◌, ◌^◌, [], ℕ, List, IfOk, IfSome, IsSome, None, OnOk, Some, length, map, reverse, true};
 ghost use Rattle.std.specs.Bool.{OnFalse};
 ghost use Rattle.attr_keys.specs.inner.Cases.{in_case};
 ghost use Rattle.attr_keys.specs.inner.Extensions.{extension, is_hashed, is_reversed_extension};
@@ -16,18 +16,23 @@ use std::alloc::{AllocError, Global};
 use std::hash::{FoldHasher, Hasher};
 
 // So many rows may share a bucket. The others of it are not found by their hashes.
-const MOST: usize = 16;
+const MOST: u8 = 16;
 
 // How many hashes there are.
 const HASHES: u128 = 1 << 64;
+
+// So many rows may be found by their hashes: links are of 32 bits, to take half the memory.
+const MOST_ROWS: usize = u32::MAX as usize;
 
 /// Rows in about as many buckets, by the hashes of their keys. Each is pushed, also those that are not found here.
 #[derive(Debug, Drop)]
 pub struct HashedRows {
     /// For each bucket the number of rows up to the last one that is in it, and 0 of an empty one.
-    pub heads: Vec<usize>,
+    pub heads: Vec<u32>,
     /// For each row the number of rows up to the last one before it that is in its bucket, and 0 if there is none.
-    pub links: Vec<usize>,
+    pub links: Vec<u32>,
+    /// For each bucket how many rows it has.
+    pub counts: Vec<u8>,
     /// The bytes of the longest base name that is a key: of a longer one no hash is made.
     pub longest_name: usize,
     /// The same of extensions.
@@ -35,10 +40,11 @@ pub struct HashedRows {
     /// The same of paths.
     pub longest_path: usize,
     ghost bounded: { AreBounded heads.items links.items },
+    ghost counted: { length counts.items ≡ length heads.items },
 }
 
 impl HashedRows {
-    ghost use Rattle.attr_keys.specs.inner.Buckets.{IsBucketOf, IsEndHead, IsHashed, IsHashedAt, IsHeadOf, longest_of};
+    ghost use Rattle.attr_keys.specs.inner.Buckets.{IsOpenBucket, IsBucketOf, IsEndHead, IsHashed, IsHashedAt, IsHeadOf, longest_of};
 
     /// No rows yet, and as many buckets as there will be rows.
     ///
@@ -53,9 +59,12 @@ impl HashedRows {
     {
         let mut heads = Vec::new(alloc);
         heads.resize(count, 0)?;
+        let mut counts = Vec::new(alloc);
+        counts.resize(count, 0)?;
         Ok(HashedRows {
             heads,
             links: Vec::with_capacity(alloc, count)?,
+            counts,
             longest_name: 0,
             longest_extension: 0,
             longest_path: 0,
@@ -63,7 +72,8 @@ impl HashedRows {
     }
 
     /// Adds the next row, with this key, and returns whether it is found by its hash. Prefixes and suffixes are not, and neither is a
-    /// row whose bucket is full. `buffer` is one for the key in lower case, as it is taken if `fold` is set.
+    /// row whose bucket is full or whose number has more than 32 bits. `buffer` is one for the key in lower case, as it is taken if
+    /// `fold` is set.
     ///
     /// # Errors
     ///
@@ -86,22 +96,24 @@ impl HashedRows {
             return Ok(false);
         };
         self.links.push(self.heads[bucket])?;
-        self.heads[bucket] = self.links.len();
+        self.heads[bucket] = self.links.len() as u32;
+        self.counts[bucket] += 1;
         self.note_length(key);
         Ok(true)
     }
 
-    // The bucket of a key that is found by its hash, if it isn't full.
+    // The bucket of a key that is found by its hash, if it isn't full and there are not too many rows.
     fn free_bucket(
         &self,
         key: Key<'_>,
         fold: bool,
         buffer: &mut Vec<u8>,
     ) -> Result<Option<usize>, AllocError>
-        ensures { IfOk result (λ free. IfSome free (λ bucket. IsBucketOf fold
+        ensures bucket { IfOk result (λ free. IfSome free (λ bucket. IsBucketOf fold
             (key_content key.entry) self.now bucket)) }
+        ensures few { IfOk result (λ free. IsSome free → length self.now.links.items < 2 ^ 32 - 1) }
     {
-        if !is_hashed(key) {
+        if !is_hashed(key) || self.links.len() >= MOST_ROWS {
             return Ok(None);
         }
         let bucket = self.bucket(hash_in_case(fold, key.text, buffer)?);
@@ -116,6 +128,7 @@ impl HashedRows {
     fn note_length(&mut self, key: Key<'_>)
         ensures heads { self.new.heads ≡ self.old.heads }
         ensures links { self.new.links ≡ self.old.links }
+        ensures counts { self.new.counts ≡ self.old.counts }
         ensures longer { (subject : Subject) →
             longest_of subject self.old ≤ longest_of subject self.new }
         ensures noted { length key.entry.text.now ≤ longest_of key.entry.subject self.new }
@@ -138,19 +151,9 @@ impl HashedRows {
 
     // Whether a bucket has as many rows as it may.
     fn is_full(&self, bucket: usize) -> bool
-        ensures { OnFalse result (bucket < length self.now.heads.items) }
+        ensures { OnFalse result (IsOpenBucket self.now bucket) }
     {
-        let Some(head) = self.heads.get(bucket) else {
-            return true;
-        };
-        let mut end = *head;
-        for _ in 0..MOST {
-            if end == 0 {
-                return false;
-            }
-            end = self.links.get(end - 1).copied().unwrap_or(0);
-        }
-        true
+        self.counts.get(bucket).is_none_or(|count| *count >= MOST)
     }
 
     /// Appends rows whose keys the texts have: among them all of those that are found by their hashes. `buffer` is one for what is
@@ -176,15 +179,9 @@ impl HashedRows {
         let name = self.head(texts.fold, texts.name, self.longest_name, buffer)?;
         self.append_bucket(lines, texts, name, found)?;
         let end = self.end_head(texts, buffer)?;
-        // A bucket that two texts share is looked through once.
-        if end != name {
-            self.append_bucket(lines, texts, end, found)?;
-        }
+        self.append_bucket(lines, texts, end, found)?;
         let path = self.head(texts.fold, texts.path, self.longest_path, buffer)?;
-        if path != name && path != end {
-            self.append_bucket(lines, texts, path, found)?;
-        }
-        Ok(())
+        self.append_bucket(lines, texts, path, found)
     }
 
     // The number of rows up to the last one that is in the bucket of a text, and 0 if the text is longer than the longest key.
@@ -196,21 +193,19 @@ impl HashedRows {
         longest: usize,
         buffer: &mut Vec<u8>,
     ) -> Result<usize, AllocError>
-        ensures within { IfOk result (λ head. head ≤ length self.now.links.items) }
-        ensures head { IfOk result (λ head. IsHeadOf fold text.now longest self.now head) }
+        ensures { IfOk result (λ head. IsHeadOf fold text.now longest self.now head) }
     {
         if text.len() > longest {
             return Ok(0);
         }
         let bucket = self.bucket(hash_in_case(fold, text, buffer)?);
-        Ok(self.heads.get(bucket).copied().unwrap_or(0))
+        Ok(self.heads.get(bucket).copied().unwrap_or(0) as usize)
     }
 
     // The same of the extension of the base name, if it has one.
     #[inline(always)]
     fn end_head(&self, texts: Texts<'_>, buffer: &mut Vec<u8>) -> Result<usize, AllocError>
-        ensures within { IfOk result (λ head. head ≤ length self.now.links.items) }
-        ensures head { IfOk result (λ head. IsEndHead
+        ensures { IfOk result (λ head. IsEndHead
             texts.entry.fold (extension texts.entry.name.now) self.now head) }
     {
         match extension(texts.name, self.longest_extension) {
@@ -240,7 +235,7 @@ impl HashedRows {
             if texts.have(lines[row].key()) {
                 found.push(row)?;
             }
-            end = self.links[row];
+            end = self.links[row] as usize;
         }
         Ok(())
     }

@@ -2,7 +2,6 @@
 
 ghost use Rattle.std.specs.Prelude.{◌≡◌, ◌++◌, [], ℕ, List, IfOk, IfSome, OnOk, map, false, true, slice_get};
 ghost use Rattle.attr_keys.specs.inner.Kinds.{AreKindRows};
-ghost use Rattle.attr_keys.specs.inner.MetRows.{AreMetRows};
 ghost use Rattle.attr_keys.specs.inner.Orders.{AreSorted};
 ghost use Rattle.attr_keys.specs.shared.KeyContents.{KeyContent};
 ghost use Rattle.attr_keys.specs.shared.KeyIndexes.{IsKeyIndex};
@@ -86,10 +85,10 @@ impl KeyIndex {
         ensures falling { OnOk result (IsFalling found.new.items) }
     {
         found.clear();
-        let Some(rows) = self.rows(texts.fold) else {
-            return find_each(lines, texts, found);
-        };
-        rows.append(lines, texts, buffer, found)?;
+        match self.rows(texts.fold) {
+            Some(rows) => rows.append(lines, texts, buffer, found)?,
+            None => append_each(lines, texts, found)?,
+        }
         fall(found);
         Ok(())
     }
@@ -163,16 +162,17 @@ impl KeyRows {
     }
 }
 
-// Pushes the indexes of the lines whose keys the texts have, the greatest first.
+// Appends the rows of the keys that the texts have. Each line is tried, the last first.
 #[inline(never)]
-fn find_each<K: Keyed>(
+fn append_each<K: Keyed>(
     lines: &[K],
     texts: Texts<'_>,
     found: &mut Vec<usize>,
 ) -> Result<(), AllocError>
     requires { found.old.items ≡ [] }
-    ensures { OnOk result (AreMetRows texts.entry.fold texts.entry.name.now texts.entry.path.now
-        (map K.content lines.now) found.new.items) }
+    ensures { OnOk result ((row : ℕ) → has_row found.new.items row
+        ≡ content_met_at texts.entry.fold texts.entry.name.now texts.entry.path.now
+        (slice_get (map K.content lines.now) row)) }
 {
     for row in (0..lines.len()).rev() {
         if texts.have(lines[row].key()) {

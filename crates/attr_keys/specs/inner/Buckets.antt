@@ -1,5 +1,5 @@
 -- Rows by the hashes of their keys (own).
-use Rattle.std.specs.Prelude.{◌≡◌, ℕ, ◌<◌, ◌≤◌, Bool, true, List, length, Option, Some, slice_get, slice_index}
+use Rattle.std.specs.Prelude.{◌≡◌, ℕ, ◌-◌, ◌^◌, ◌<◌, ◌≤◌, Bool, true, List, length, Option, Some, slice_get, slice_index}
 use Rattle.attr_keys.specs.declared.hashed.HashedRows.{HashedRows}
 use Rattle.attr_keys.specs.declared.key.Subject.{Subject}
 use Rattle.attr_keys.specs.declared.key.Subject.TheVariants.{Name, End}
@@ -13,9 +13,15 @@ use Rattle.attr_keys.specs.inner.Links.{IsLed}
 abbrev pub head_of : HashedRows → ℕ → ℕ
 head_of hashed hash = slice_index hashed.heads.items (bucket_of (length hashed.heads.items) hash)
 
--- the key is one that is found by its hash, and this is its bucket
+-- the bucket may take one more row
+pub record IsOpenBucket (hashed : HashedRows) (bucket : ℕ) : Type 0 where
+  pub within : bucket < length hashed.counts.items
+  pub few : slice_index hashed.counts.items bucket < 2 ^ 8 - 1
+
+-- the key is one that is found by its hash, and this is its bucket, which has room
 pub record IsBucketOf (fold : Bool) (key : KeyContent) (hashed : HashedRows) (bucket : ℕ) : Type 0 where
   pub kind : is_hashed key ≡ true
+  pub room : IsOpenBucket hashed bucket
   pub within : bucket < length hashed.heads.items
   pub is : bucket ≡ bucket_of (length hashed.heads.items) (text_hash (in_case fold (natural key)))
 
@@ -36,9 +42,11 @@ abbrev pub IsHashedAt : Bool → List KeyContent → HashedRows → ℕ → Type
 IsHashedAt fold keys hashed row = (key : KeyContent) × (slice_get keys row ≡ Some key) × IsHashed fold key hashed row
 
 -- the head of the bucket of a text, unless the text is longer than the longest key
-abbrev pub IsHeadOf : Bool → List ℕ → ℕ → HashedRows → ℕ → Type 0
-IsHeadOf fold text longest hashed head = length text ≤ longest → head ≡ head_of hashed (text_hash (in_case fold text))
+pub record IsHeadOf (fold : Bool) (text : List ℕ) (longest : ℕ) (hashed : HashedRows) (head : ℕ) : Type 0 where
+  pub within : head ≤ length hashed.links.items
+  pub is : length text ≤ longest → head ≡ head_of hashed (text_hash (in_case fold text))
 
 -- the same of an extension, if there is one
-abbrev pub IsEndHead : Bool → Option (List ℕ) → HashedRows → ℕ → Type 0
-IsEndHead fold part hashed head = (text : List ℕ) → part ≡ Some text → IsHeadOf fold text hashed.longest_extension hashed head
+pub record IsEndHead (fold : Bool) (part : Option (List ℕ)) (hashed : HashedRows) (head : ℕ) : Type 0 where
+  pub within : head ≤ length hashed.links.items
+  pub of : (text : List ℕ) → part ≡ Some text → IsHeadOf fold text hashed.longest_extension hashed head

@@ -4,7 +4,7 @@ use Rattle.attr_keys.specs.declared.key.Texts.{Texts}
 use Rattle.attr_keys.specs.shared.KeyContents.{KeyContent}
 use Rattle.attr_keys.specs.shared.Codes.{codes_of, row_codes}
 use Rattle.attr_keys.specs.shared.Meeting.{content_met_at, text_has}
-use Rattle.attr_keys.specs.shared.Rows.{AreInOrder, IsFalling, has_row, is_up_to}
+use Rattle.attr_keys.specs.shared.Rows.{AreInOrder, has_row, is_up_to}
 
 -- those of the rows that pass the test were appended whose keys the text has
 abbrev pub AppendsRows : (ℕ → Bool) → List KeyContent → List ℕ → List ℕ → List ℕ → Type 0
@@ -27,8 +27,3 @@ pub record IsMissed (keys : List KeyContent) (rows text : List ℕ) (index : ℕ
   pub within : index < length rows
   pub up_to : is_up_to (codes_of false text true) (row_codes keys (slice_index rows index)) ≡ true
   pub lacks : text_has text (slice_get keys (slice_index rows index)) ≡ false
-
--- the rows of the keys that the texts have, the greatest first
-pub record AreMetRows (fold : Bool) (name path : List ℕ) (keys : List KeyContent) (found : List ℕ) : Type 0 where
-  pub has : (row : ℕ) → has_row found row ≡ content_met_at fold name path (slice_get keys row)
-  pub falling : IsFalling found

@@ -14,8 +14,8 @@ loop-end-smaller g c =
     let links = c.args.self.now.links.items in
     let next = c.loop-end.end - 1 in
     let within : next < length links = omega (arith, c.loop-end.invariant.within, c.loop-end-test.true) in
-    let link : c.index-end.result.now ≡ get_or links next 0 =
-    get_or_read_under links next (length links) c.index-end.result.now 0 c.index-end.ensures within refl in
+    let link : c.index.result.now ≡ get_or links next 0 =
+    get_or_read_under links next (length links) c.index.result.now 0 c.index.ensures within refl in
     omega (arith, link, c.args.self.now.bounded.earlier next, c.loop-end-test.true)
 
 pub loop-end-preserved : goal.loop-end-preserved
@@ -27,8 +27,8 @@ loop-end-preserved g c =
     let old = c.args.found.now.items in
     let within : next < length links = omega (arith, c.loop-end.invariant.within, c.loop-end-test.true) in
     let is : c.loop-end.end ≡ suc next = omega (arith, c.loop-end-test.true) in
-    let link : c.index-end.result.now ≡ get_or links next 0 =
-    get_or_read_under links next (length links) c.index-end.result.now 0 c.index-end.ensures within refl in
+    let link : c.index.result.now ≡ get_or links next 0 =
+    get_or_read_under links next (length links) c.index.result.now 0 c.index.ensures within refl in
     let at : slice_get keys next ≡ Some (key_content c.key.result) =
     grind (arith, nat_tests, slice_get-map, slice_get_read, c.index-lines-row.is, c.key.ensures, within, c.requires.counted) in
     subst (λ e. Follows Met links c.args.head e old c.if-have.found.items) (sym link) (elim c.if-have.branch [

@@ -13,7 +13,7 @@ returns-in_default-clause-kept c = λ key row hashed.
     (λ subject. grind (arith, nat_tests)) hashed
 
 bucket_is : (c : goal.After-note_length) → IsBucketOf c.args.fold (key_content c.args.key) c.args.self.now c.in-Some.bucket
-bucket_is c = subst (λ free. IfSome free (IsBucketOf c.args.fold (key_content c.args.key) c.args.self.now)) c.in-Some.is c.in_ok-bucket.ensures
+bucket_is c = subst (λ free. IfSome free (IsBucketOf c.args.fold (key_content c.args.key) c.args.self.now)) c.in-Some.is c.in_ok-bucket.ensures.bucket
 
 link_is : (c : goal.After-note_length) → c.index.result.now ≡ get_or c.args.self.now.heads.items c.in-Some.bucket 0
 link_is c =

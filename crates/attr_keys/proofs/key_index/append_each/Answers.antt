@@ -1,14 +1,8 @@
-use Rattle.std.proofs.lemmas.Grind.{common_steps}
-use Rattle.std.proofs.lemmas.Bool.{cases_eq, cases_lt, ne_eqb}
-use Rattle.std.proofs.Math.ListN.{get_or-append}
-use Rattle.std.proofs.Math.Seq.{get_or-append_seam}
-use Rattle.std.proofs.lemmas.List.{length-append}
 use Rattle.std.proofs.lemmas.List.Folds.{list_any-append}
-use Rattle.attr_keys.proofs.RowLemmas.{or_none}
 use Rattle.std.proofs.lemmas.Option.{slice_get-map, slice_get_read}
 use Rattle.std.proofs.lemmas.Bool.Decides.{nat_tests}
 use Rattle.std.proofs.Common.{arith}
-use Rattle.attr_keys.proofs.key_index.find_each.Goals as goal
+use Rattle.attr_keys.proofs.key_index.append_each.Goals as goal
 
 pub loop-row-preserved-in-Continue-1 : goal.loop-row-preserved-in-Continue-1
 loop-row-preserved-in-Continue-1 g c = grind (
@@ -16,15 +10,7 @@ loop-row-preserved-in-Continue-1 g c = grind (
   nat_tests,
   slice_get-map,
   slice_get_read,
-  common_steps,
-  cases_eq,
-  cases_lt,
-  get_or-append,
-  get_or-append_seam,
-  length-append,
   list_any-append,
-  or_none,
-  ne_eqb,
   c.loop-row-test.true,
   c.loop-row.auto.row,
   c.index-lines-row.is,
