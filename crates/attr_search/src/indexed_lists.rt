@@ -109,15 +109,7 @@ impl IndexedLists {
     pub fn are_ids_distinct(&self) -> bool
         ensures { IsTrue result ↔ IsDistinct nat_eq (list_ids_of self.now.lists.items) }
     {
-        let mut ascend = true;
-        for index in 1..self.lists.len() {
-            let list_id = self.lists[index].list_id;
-            ascend = ascend && self.lists[index - 1].list_id < list_id;
-            if !ascend && has_id(&self.lists[..index], list_id) {
-                return false;
-            }
-        }
-        true
+        do_ids_ascend(&self.lists) || is_each_id_new(&self.lists)
     }
 
     /// A copy: each list has the same number.
@@ -193,6 +185,27 @@ impl IndexedLists {
             }
         }
     }
+}
+
+// Whether each list has a greater list id than the one before it.
+fn do_ids_ascend(lists: &[IndexedList]) -> bool
+    ensures { IsTrue result → IsDistinct nat_eq (list_ids_of lists.now) }
+{
+    lists.is_sorted_by(|list, next| list.list_id < next.list_id)
+}
+
+// Whether no list has the list id of a later one.
+fn is_each_id_new(lists: &[IndexedList]) -> bool
+    ensures { IsTrue result ↔ IsDistinct nat_eq (list_ids_of lists.now) }
+{
+    let mut left = lists;
+    while let Some((list, later)) = left.split_first() {
+        if has_id(later, list.list_id) {
+            return false;
+        }
+        left = later;
+    }
+    true
 }
 
 // Whether a list has this list id.
