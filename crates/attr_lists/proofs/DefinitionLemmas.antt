@@ -1,10 +1,10 @@
 -- Definitions of macros, by list.
-use Rattle.std.proofs.Common.{◌≡◌, ℕ, false, not, List, [], ◌∷◌, ◌++◌, map, filter, refl, ap, arith}
+use Rattle.std.proofs.Common.{◌≡◌, ℕ, not, List, [], ◌∷◌, ◌++◌, map, filter, refl, arith}
 use Rattle.std.proofs.lemmas.Bool.{cases_Bool, cond-true, cond-false}
 use Rattle.std.proofs.lemmas.List.{append-nil, map-append}
 use Rattle.std.proofs.lemmas.List.Elements.{filter-append}
 use Rattle.attr_lists.specs.declared.types.TrackedAssignment.{TrackedAssignment}
-use Rattle.attr_lists.specs.Definitions.{is_definition, bodies_defined, bodies_named, bodies_of_list, definition_of}
+use Rattle.attr_lists.specs.Definitions.{bodies_named, bodies_of_list, definition_of}
 use Rattle.attr_lists.specs.Definitions.{is_of_list, of_other_lists}
 use Rattle.attr_lists.specs.ListViews.{Entry}
 use Rattle.attr_lists.specs.Collections.{MacroDefinition}
@@ -30,14 +30,6 @@ pub of_other_lists-more : (list_id : ℕ) (old : List MacroDefinition) (bodies :
 of_other_lists-more list_id old bodies = grind (arith, of_other_lists-append, of_other_lists-own, append-nil)
 
 -- a line defines first
-pub bodies_defined-cons : (number : ℕ) (entry : Entry) (entries : List Entry) → bodies_defined number (entry ∷ entries) ≡ bodies_defined number
-    (entry ∷ []) ++ bodies_defined number entries
-bodies_defined-cons number entry entries = grind (arith, filter-append, map-append, filter)
-
-pub bodies_defined-none : (number : ℕ) (entry : Entry) → is_definition number entry ≡ false → bodies_defined number (entry ∷ []) ≡ []
-bodies_defined-none number entry e = ap (map (λ (x : Entry). x.items)) (cond-false (is_definition number entry) (entry ∷ []) [] e)
-
--- the same of the bodies that lines define for a name
 pub bodies_named-cons : (name : List ℕ) (entry : Entry) (entries : List Entry) → bodies_named name (entry ∷ entries) ≡ bodies_named name
     (entry ∷ []) ++ bodies_named name entries
 bodies_named-cons name entry entries = grind (arith, filter-append, map-append, filter)

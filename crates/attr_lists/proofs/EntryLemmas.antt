@@ -20,7 +20,7 @@ use Rattle.attr_lists.specs.inner.EntryViews.{definition_view, definitions_view,
 use Rattle.attr_lists.specs.inner.EntryViews.{IsEntry, AreEntries}
 use Rattle.attr_lists.specs.inner.Registered.{SharedMacro, numbered_body}
 use Rattle.attr_lists.proofs.DefinitionLemmas.{of_other_lists-again, of_other_lists-more}
-use Rattle.attr_lists.proofs.ListLemmas.{filter-map, front, front-more, get_or-map, map_copied}
+use Rattle.attr_lists.proofs.ListLemmas.{filter-map, get_or-map, map_copied}
 use Rattle.attr_lists.proofs.NameTableLaws.{all_of_map, bodies_of_number-append}
 
 -- the definitions that are left
@@ -68,16 +68,6 @@ pub AreEntries-set-element : (entries : List NameEntry) (i : ℕ) (d x : NameEnt
     (IsEntry i (get_or entries i d) → IsEntry i x) → AreEntries entries → AreEntries (set entries i x)
 AreEntries-set-element entries i d x {n} len lt keeps all = grind (arith, length-set, get_or-set_same, get_or-set_other, cases_eq)
 
--- the definitions are removed from one more name
-pub remove_all_step : (list_id : ℕ) (start entries : List NameEntry) (i : ℕ) (d x : NameEntry) → i < length start → all_definitions entries ≡ front
-    (of_other_lists list_id) i (all_definitions start) → definitions_view x ≡ of_other_lists list_id (definitions_view (get_or entries i d)) →
-    all_definitions (set entries i x) ≡ front (of_other_lists list_id) (i + 1) (all_definitions start)
-remove_all_step list_id start entries i d x lt e is =
-    map-set definitions_view entries i x
-    ∙ front-more (of_other_lists list_id) i (all_definitions start) (all_definitions entries) (definitions_view x) (definitions_view d)
-    (omega (arith, length-map start definitions_view))
-    (is ∙ ap (of_other_lists list_id) (sym (get_or-map definitions_view entries i d))) e
-
 -- the definitions of a name after those of one more macro are added
 pub define_list_step : (list_id number : ℕ) (start entries now : List NameEntry) (list : List SharedMacro) (i : ℕ) (known : SharedMacro)
     → i < length list → known ≡ get_or list i known
@@ -97,19 +87,6 @@ define_list_step list_id number start entries now list i known lt at before here
     ∙ ap (map (definition_of list_id)) (sym (bodies_of_number-append number (numbered_body first ∷ []) (map numbered_body rest)))
     ∙ sym (at_drop_more bodies list i known lt))
     ∙ before
-
--- the definitions of a name after the definitions of another one may have changed
-definitions_at-cases : (P : List MacroDefinition → Type 0) (entries : List NameEntry) (i n : ℕ) (d x : NameEntry) → i < length entries →
-    (definitions_view (get_or entries i d) ≡ definitions_at entries n → i ≡ n → P (definitions_view x)) → ((i ≡ n → ⊥) → P (definitions_at entries n))
-    → P
-    (definitions_at (set entries i x) n)
-definitions_at-cases P entries i n d x lt here there =
-    ⊎_elim
-    (λ same. let at : definitions_at (set entries i x) n ≡ definitions_view x = ap (definitions_at (set entries i x)) (sym same) ∙ definitions_at-same
-    entries i x lt in
-    subst P (sym at) (here (sym (definitions_at-within entries i d lt) ∙ ap (definitions_at entries) same) same))
-    (λ other. subst P (sym (definitions_at-other entries i n x (λ e. other (sym e)))) (there other))
-    (cases_eq i n)
 
 -- a list's definitions of the name with this number were removed; those of other names stay
 pub record RemovesAt (list_id number : ℕ) (old new : List NameEntry) : Type 0 where
@@ -179,11 +156,19 @@ pub defined_at : (list_id n : ℕ) (entries : List NameEntry) (b : NumberedBody)
     → definitions_view x ≡ definitions_view (get_or entries b.number d) ++ definition_of list_id b.body ∷ []
     → definitions_at (set entries b.number x) n ≡ definitions_at entries n ++ map (definition_of list_id) (bodies_of_number n (b ∷ []))
 defined_at list_id n entries b d x lt e =
-    let bodies = λ (l : List NumberedBody). map (definition_of list_id) (map (λ (k : NumberedBody). k.body) l) in
-    definitions_at-cases (λ ds. ds ≡ definitions_at entries n ++ bodies (filter (λ (k : NumberedBody). eqb k.number n) (b ∷ []))) entries b.number
-    n d x lt
-    (λ at same. grind (arith, cond-true, eq-eqb))
-    (λ other. grind (arith, append-nil, cond-false, ne_eqb))
+    grind (
+      arith,
+      cases_eq,
+      definitions_at-same,
+      definitions_at-other,
+      definitions_at-within entries b.number d lt,
+      cond-true,
+      cond-false,
+      eq-eqb,
+      ne_eqb,
+      append-nil,
+      e,
+    )
 
 -- the definitions of other lists stay
 pub others_at : (list_id i n : ℕ) (entries : List NameEntry) (d x : NameEntry) (body : List TrackedAssignment) → i < length entries → definitions_view
@@ -191,15 +176,21 @@ pub others_at : (list_id i n : ℕ) (entries : List NameEntry) (d x : NameEntry)
     definitions_view (get_or entries i d) ++ definition_of list_id body ∷ [] → of_other_lists list_id (definitions_at (set entries i x) n) ≡
     of_other_lists list_id (definitions_at entries n)
 others_at list_id i n entries d x body lt e =
-    definitions_at-cases (λ ds. of_other_lists list_id ds ≡ of_other_lists list_id (definitions_at entries n)) entries i n d x lt
-    (λ at same. ap (of_other_lists list_id) e ∙ of_other_lists-more list_id (definitions_view (get_or entries i d)) (body ∷ []) ∙ ap
-    (of_other_lists list_id) at)
-    (λ other. refl)
+    grind (
+      arith,
+      cases_eq,
+      definitions_at-same,
+      definitions_at-other,
+      definitions_at-within entries i d lt,
+      of_other_lists-more list_id (definitions_view (get_or entries i d)) (body ∷ []),
+      e,
+    )
 
 pub same_at : (i n : ℕ) (entries : List NameEntry) (d x : NameEntry) → i < length entries → definitions_view x ≡ definitions_view (get_or entries i d)
     →
     definitions_at (set entries i x) n ≡ definitions_at entries n
-same_at i n entries d x lt e = definitions_at-cases (λ ds. ds ≡ definitions_at entries n) entries i n d x lt (λ at same. e ∙ at) (λ other. refl)
+same_at i n entries d x lt e =
+    grind (arith, cases_eq, definitions_at-same, definitions_at-other, definitions_at-within entries i d lt, e)
 
 -- copies of definitions
 pub definitions_copied : (ds copies : List Definition) → AllZip clone.ghosts.is_clone ds copies → map definition_view copies ≡ map definition_view ds

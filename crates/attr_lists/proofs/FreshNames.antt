@@ -1,70 +1,32 @@
 -- Names that are appended before their list is registered, and lines that have the numbers of their names.
-use Rattle.std.proofs.Common.{◌≡◌, ℕ, ◌<◌, ◌≤◌, List, [], ◌∷◌, ◌++◌, length, get_or, map, take, All}
+use Rattle.std.proofs.Common.{◌≡◌, ℕ, ◌≤◌, List, [], ◌∷◌, ◌++◌, length, get_or, map, take, All}
 use Rattle.std.proofs.Common.{Option, Some, None, IfSome, option_map, unwrap_or, Bool, false, Result, Ok, Err, is_err, IfOk}
 use Rattle.std.specs.Result.{OnErr, OnOk}
-use Rattle.std.proofs.Common.{append-nil, bytes_eq, refl, sym, ap, subst, ◌∙◌, ⊎_elim, arith}
+use Rattle.std.proofs.Common.{bytes_eq, refl, sym, ap, subst, ◌∙◌, ⊎_elim, arith}
+use Rattle.std.specs.BTreeSet.{BTreeSet}
 use Rattle.std.specs.List.{IsDistinct}
 use Rattle.std.proofs.lemmas.Bool.{cases_lt}
 use Rattle.std.proofs.lemmas.List.{length-map, length-take, take-map, get_or-take, get_or_past, take_at}
-use Rattle.std.proofs.lemmas.List.Elements.{All-head, All-tail, All-weaker}
+use Rattle.std.proofs.lemmas.List.Elements.{All-head, All-tail}
 use Rattle.std.proofs.lemmas.List.Sums.{fold-append}
 use Rattle.attr_lists.specs.declared.name_table.entry.NameEntry.{NameEntry}
-use Rattle.attr_lists.specs.declared.name_table.NameTable.TheInside.{Inside}
 use Rattle.attr_lists.specs.declared.types.AttributeId.{AttributeId}
 use Rattle.attr_lists.specs.declared.types.TrackedAssignment.{TrackedAssignment}
 use Rattle.attr_lists.specs.Collections.{Collection}
-use Rattle.attr_lists.specs.Definitions.{definitions_of, is_registered, macros_defined, with_list}
-use Rattle.attr_lists.specs.Definitions.{HoldsList, IsSoundCollection, IsWithin, RegistersAs}
+use Rattle.attr_lists.specs.Definitions.{is_registered, macros_defined, with_list}
+use Rattle.attr_lists.specs.Definitions.{HoldsList, IsSoundCollection, RegistersAs}
 use Rattle.attr_lists.specs.ListViews.{Entry}
 use Rattle.attr_lists.specs.shared.Reading.{NumbersLines, with_first}
-use Rattle.std.specs.BTreeSet.{contains}
-use Rattle.std.specs.Ordering.{nat_cmp}
 use Rattle.attr_lists.specs.Numbers.{id_of, macro_names, names_of, names_in, no_number, numbered, numbered_item, numbered_lines}
 use Rattle.attr_lists.specs.Numbers.{with_name, with_names}
 use Rattle.attr_lists.specs.Numbers.{AppendsNames, AreNamed, IsNumberOf}
 use Rattle.attr_lists.specs.inner.EntryViews.{definitions_view, all_definitions, definitions_at, AreEntries, AreValid, IsEntry}
-use Rattle.attr_lists.specs.inner.NameTableView.{name_table_view, IsNameTable, IsPartlyRead}
-use Rattle.attr_lists.specs.inner.Registered.{registered_views, AreAscending}
+use Rattle.attr_lists.specs.inner.NameTableView.{Describes}
 use Rattle.attr_lists.specs.shared.Keeping.{IsNumbered, StayRegistered}
 use Rattle.attr_lists.proofs.NamedDefinitions.{number_where}
 use Rattle.attr_lists.proofs.NameLemmas.{with_names-distinct, with_names-extends}
-use Rattle.attr_lists.proofs.NameTableLaws.{added_holds, added_keeps, count_more, list_numbered, named_still}
+use Rattle.attr_lists.proofs.NameTableLaws.{added_holds, added_keeps, list_numbered, named_sound}
 use Rattle.attr_lists.proofs.NumberLemmas.{numbered_known}
-
--- a collection with more names is sound
-pub named_sound : (old : Collection) (texts : List (List ℕ)) → IsSoundCollection old → AreValid (with_names old.names texts)
-    → IsSoundCollection (record { names = with_names old.names texts; lists = old.lists })
-named_sound old texts sound valid =
-    let names = with_names old.names texts in
-    let more : length old.names ≤ length names = count_more old.names texts in
-    record {
-      valid = valid;
-      distinct = with_names-distinct old.names texts sound.distinct;
-      ids = sound.ids;
-      numbers = λ number past. sound.numbers number (omega (arith, past, more));
-      within = λ number. All-weaker (IsWithin (length old.names)) (IsWithin (length names))
-          (λ d h. All-weaker (λ (item : TrackedAssignment). item.id.0 < length old.names) (λ (item : TrackedAssignment). item.id.0 < length names)
-          (λ item i. omega (arith, more)) d.body h) (definitions_of old number) (sound.within number);
-      named = λ number. All-weaker (λ d. AreNamed old.names d.body) (λ d. AreNamed names d.body)
-          (λ d h. named_still old.names texts d.body h) (definitions_of old number) (sound.named number);
-    }
-
--- parts with more names, each with an entry without definitions, are whole
-pub named_whole : (p q : Inside) (texts : List (List ℕ)) → IsNameTable p → q.names ≡ with_names p.names texts → AreValid q.names
-    → registered_views q.lists.items ≡ registered_views p.lists.items → length q.entries.items ≡ length q.names → AreEntries q.entries.items
-    → ((n : ℕ) → definitions_at q.entries.items n ≡ definitions_at p.entries.items n) → q.macros ≡ p.macros → IsNameTable q
-named_whole p q texts whole names valid lists counted entries definitions macros =
-    let view : name_table_view q ≡ record { names = with_names p.names texts; lists = registered_views p.lists.items } =
-    λ j. record { names = names j; lists = lists j } in
-    record {
-      sound = subst IsSoundCollection (sym view) (named_sound (name_table_view p) texts whole.sound (subst AreValid names valid));
-      counted = counted;
-      entries = entries;
-      defined = λ n. definitions n ∙ whole.defined n ∙ ap (λ ls. definitions_of (record { names = q.names; lists = ls }) n) (sym lists);
-      ascending = subst AreAscending (sym lists) whole.ascending;
-      macros = λ n none. ap (λ ls. definitions_of (record { names = q.names; lists = ls }) n) lists
-          ∙ whole.macros n (ap (λ set. contains nat_cmp set n) (sym macros) ∙ none);
-    }
 
 -- what holds of a value holds where there is no error
 pub no_error : {T E F : Type 0} (r : Result T E) (b : Bool) → b ≡ is_err r → b ≡ false → OnOk r F → F
@@ -82,86 +44,51 @@ pub appended : {T E : Type 0} (r : Result T E) (old new texts : List (List ℕ))
 appended (Ok x) old new texts named part = let more = with_names-extends old texts in (more.0, named ∙ more.1)
 appended (Err e) old new texts named part = part
 
-pub partly_read : {T E : Type 0} (r : Result T E) (start mid : Inside) (texts : List (List ℕ)) → IsNameTable start
-    → OnOk r (mid.names ≡ with_names start.names texts) → OnErr r (AppendsNames start.names mid.names)
-    → length start.entries.items ≤ length mid.entries.items → (AreEntries start.entries.items → AreEntries mid.entries.items)
-    → ((n : ℕ) → definitions_at mid.entries.items n ≡ definitions_at start.entries.items n)
-    → mid.lists.items ≡ start.lists.items → mid.macros ≡ start.macros → IsPartlyRead start mid
-partly_read r start mid texts whole named part more entries definitions lists macros = record {
-  names = appended r start.names mid.names texts named part;
-  counted = more;
-  entries = entries whole.entries;
-  definitions = definitions;
-  lists = lists;
-  macros = macros;
-}
+-- entries without definitions are added for names that are appended
+module _ (list now : List NameEntry) (numbers : BTreeSet ℕ) (known : Collection) (names : List (List ℕ)) (whole : Describes list numbers known)
+    (more : AppendsNames known.names names) (entries : AreEntries now)
+    (same : (n : ℕ) → definitions_at now n ≡ definitions_at list n) where
+  pub named_whole : AreValid names → IsDistinct bytes_eq names → length now ≡ length names
+      → Describes now numbers (record { names = names; lists = known.lists })
+  named_whole valid distinct counted = record {
+    sound = named_sound known names more whole.sound valid distinct;
+    counted = counted;
+    entries = entries;
+    defined = λ n. same n ∙ whole.defined n;
+    ascending = whole.ascending;
+    macros = whole.macros;
+  }
 
-pub entries_first : (count : ℕ) (entries : List NameEntry) → AreEntries entries → AreEntries (take count entries)
-entries_first count entries are n d lt =
-    let few = length-take count entries in
-    subst (IsEntry n) (sym (get_or-take count entries n d (omega (arith, lt, few)))) (are n d (omega (arith, lt, few)))
+  -- the first entries are left, whether or not there is one for each name
+  pub first_whole : (count : ℕ) → length (take count now) ≡ length (take count names) → IsSoundCollection (record {
+    names = take count names;
+    lists = known.lists;
+  }) → Describes (take count now) numbers (record { names = take count names; lists = known.lists })
+  first_whole count counted sound = record {
+    sound = sound;
+    counted = counted;
+    entries = λ n d lt. let few = length-take count now in
+        subst (IsEntry n) (sym (get_or-take count now n d (omega (arith, lt, few)))) (entries n d (omega (arith, lt, few)));
+    defined = λ n. ⊎_elim
+        (λ lt. ap (λ l. get_or l n []) (sym (take-map definitions_view count now)) ∙ get_or-take count (all_definitions now) n [] lt
+        ∙ same n ∙ whole.defined n)
+        (λ past. get_or_past (all_definitions (take count now)) n []
+        (omega (arith, past, length-take count now, length-map (take count now) definitions_view))
+        ∙ sym (sound.numbers n (omega (arith, past, length-take count names))))
+        (cases_lt n count);
+    ascending = whole.ascending;
+    macros = whole.macros;
+  }
 
--- parts of which the first names are left are whole, if those before the other names were added were
-module _ (mid now : Inside) (count : ℕ) (names : now.names ≡ take count mid.names) (lists : now.lists ≡ mid.lists)
-    (entries : now.entries.items ≡ take count mid.entries.items) (macros : now.macros ≡ mid.macros) where
-  first_whole : (start : Inside) → IsPartlyRead start mid → IsNameTable start → IsSoundCollection (name_table_view now)
-      → length now.entries.items ≡ length now.names → IsNameTable now
-  first_whole start part whole sound counted =
-      let same : registered_views now.lists.items ≡ registered_views start.lists.items =
-      ap registered_views (ap (λ ls. ls.items) lists ∙ part.lists) in
-      let definitions : (n : ℕ) → definitions_of (name_table_view now) n ≡ definitions_of (name_table_view start) n =
-      λ n. ap (λ ls. definitions_of (record { names = now.names; lists = ls }) n) same in
-      let few = length-take count mid.entries.items in
-      record {
-        sound = sound;
-        counted = counted;
-        entries = subst AreEntries (sym entries) (entries_first count mid.entries.items part.entries);
-        defined = λ n. ⊎_elim
-            (λ (lt : n < count).
-            ap (λ es. definitions_at es n) entries
-            ∙ ap (λ l. get_or l n []) (sym (take-map definitions_view count mid.entries.items))
-            ∙ get_or-take count (all_definitions mid.entries.items) n [] lt
-            ∙ part.definitions n ∙ whole.defined n ∙ sym (definitions n))
-            (λ (past : count ≤ n).
-            get_or_past (all_definitions now.entries.items) n []
-            (omega (arith, past, few, ap length entries, length-map now.entries.items definitions_view))
-            ∙ sym (sound.numbers n (omega (arith, past, few, ap length entries, counted))))
-            (cases_lt n count);
-        ascending = subst AreAscending (sym same) whole.ascending;
-        macros = λ n none. definitions n ∙ whole.macros n (ap (λ set. contains nat_cmp set n) (sym (macros ∙ part.macros)) ∙ none);
-      }
-
-  -- such as those that were whole with all names
-  pub left_first : IsNameTable mid → IsSoundCollection (name_table_view now) → IsNameTable now
-  left_first whole sound =
-      first_whole mid (record {
-        names = ([], sym (append-nil mid.names));
-        counted = omega arith;
-        entries = whole.entries;
-        definitions = λ n. refl;
-        lists = refl;
-        macros = refl;
-      }) whole sound
-      (omega (arith, ap length entries, ap length names, whole.counted, length-take count mid.entries.items, length-take count mid.names))
-
-  -- and those before memory ran out
-  pub read_back : (start : Inside) → IsPartlyRead start mid → count ≡ length start.names → IsNameTable start
-      → (name_table_view now ≡ name_table_view start) × IsNameTable now
-  read_back start part count_is whole =
-      let same_names : now.names ≡ start.names = names ∙ ap (take count) part.names.1 ∙ take_at start.names part.names.0 count (sym count_is) in
-      let view : name_table_view now ≡ name_table_view start =
-      λ j. record { names = same_names j; lists = registered_views ((ap (λ ls. ls.items) lists ∙ part.lists) j) } in (
-        view,
-        first_whole start part whole (subst IsSoundCollection (sym view) whole.sound)
-            (omega (
-              arith,
-              ap length entries,
-              ap length same_names,
-              whole.counted,
-              count_is,
-              part.counted,
-              length-take count mid.entries.items,
-            )),
+  -- memory ran out, and the names are those before
+  pub read_back : (count : ℕ) → count ≡ length known.names → length list ≤ length now
+      → (take count names ≡ known.names) × Describes (take count now) numbers (record { names = take count names; lists = known.lists })
+  read_back count count_is longer =
+      let back : take count names ≡ known.names = ap (take count) more.1 ∙ take_at known.names more.0 count (sym count_is) in
+      let view : List (List ℕ) → Collection = λ ns. record { names = ns; lists = known.lists } in (
+        back,
+        first_whole count (omega (arith, ap length back, whole.counted, count_is, longer, length-take count now))
+            (subst (λ ns. IsSoundCollection (view ns)) (sym back) whole.sound),
       )
 
 -- ---- lines that have the numbers of their names

@@ -6,7 +6,6 @@ pub mod KeptLaws
 pub mod KeptLemmas
 pub mod LineLaws
 pub mod ListLemmas
-pub mod MacroLemmas
 pub mod NameLemmas
 pub mod NameSetLemmas
 pub mod NameTableLaws

@@ -1,16 +1,14 @@
 -- Lists and their images under a function.
 use Rattle.std.proofs.Common.{◌≡◌, ℕ, ◌+◌, ◌<◌, Bool, true, List, [], ◌∷◌, ◌++◌, length, get_or, map, take}
-use Rattle.std.proofs.Common.{drop, set, Result, OnErr, refl, ap, arith, suc}
+use Rattle.std.proofs.Common.{drop, set, Result, OnErr, refl, sym, ap, ◌∙◌, arith, suc}
 use Rattle.std.specs.List.{AllZip, list_all, refill}
 use Rattle.std.specs.Option.{ForSome}
 use Rattle.std.specs.Prelude.{position}
 use Rattle.std.proofs.Common.{filter}
 use Rattle.std.proofs.lemmas.Bool.{and_parts, cases_Bool, cond-false, cond-true}
-
+use Rattle.std.proofs.lemmas.List.{length-map, map-set}
 -- the element at an index of a mapped list
-pub get_or-map : {X Y : Type 0} (f : X → Y) (xs : List X) (i : ℕ) (d : X) → get_or (map f xs) i (f d) ≡ f (get_or xs i d)
-get_or-map f (x ∷ xs) (suc i) d = get_or-map f xs i d
-get_or-map f xs i d = grind arith
+pub use Rattle.std.proofs.Math.ListN.{get_or-map}
 
 -- f of the first so many elements, and the others as they are
 abbrev pub front : {X : Type 0} → (X → X) → ℕ → List X → List X
@@ -28,6 +26,15 @@ front-set f i xs d h = grind arith
 pub front-more : {X : Type 0} (f : X → X) (i : ℕ) (start now : List X) (x d : X) → i < length start → x ≡ f (get_or now i d) → now ≡ front f i start →
     set now i x ≡ front f (i + 1) start
 front-more f i start now x d h is e = grind (arith, front-at, front-set)
+
+-- so it is in what is viewed
+pub front-step : {X Y : Type 0} (view : X → Y) (f : Y → Y) (start lines : List X) (i : ℕ) (d now : X) → i < length start
+    → map view lines ≡ front f i (map view start) → view now ≡ f (view (get_or lines i d))
+    → map view (set lines i now) ≡ front f (i + 1) (map view start)
+front-step view f start lines i d now lt e is =
+    map-set view lines i now
+    ∙ front-more f i (map view start) (map view lines) (view now) (view d) (omega (arith, length-map start view))
+    (is ∙ ap f (sym (get_or-map view lines i d))) e
 
 -- a slice that was written over the whole of a list
 pub refill_whole : {X : Type 0} (xs ws : List X) → length ws ≡ length xs → refill (length xs) xs ws ≡ ws

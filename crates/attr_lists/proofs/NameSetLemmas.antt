@@ -1,20 +1,19 @@
 -- A set of names: what an appended name and a removed one leave of the numbers.
-use Rattle.std.proofs.Common.{◌≡◌, ℕ, ◌+◌, ◌<◌, Bool, true, false, List, [], ◌∷◌, ◌++◌, length, get_or, map, bytes_eq, Option, Some, None}
-use Rattle.std.proofs.Common.{IsTrue, refl, sym, ap, subst, ◌∙◌, ⊎_elim, true≢false, arith}
+use Rattle.std.proofs.Common.{◌≡◌, ℕ, ◌+◌, Bool, true, false, List, [], ◌∷◌, ◌++◌, length, get_or, map, bytes_eq, Option, Some, None}
+use Rattle.std.proofs.Common.{IsTrue, refl, sym, ap, subst, ◌∙◌, ⊎_elim, arith}
 use Rattle.std.specs.BTreeMap.{BTreeMap, UpdatesBy}
 use Rattle.std.specs.Cmp.{eq_by_cmp_equiv}
 use Rattle.std.specs.Cmp.Lexicographic.{bytes_decides, slice_cmp, nat_list_cmp_total, nat_list_eq_equiv}
-use Rattle.std.specs.List.{list_any, AllZip, IsDistinct}
+use Rattle.std.specs.List.{AllZip, IsDistinct}
 use Rattle.std.specs.Map.{lookup, IsKeyTest, AreApart, KeepsOthers}
 use Rattle.std.specs.Ordering.{is_eq, nat_cmp}
 use Rattle.std.specs.Rc.{rc_str_bytes}
 use Rattle.std.specs.declared.rc.RcStr.{RcStr}
-use Rattle.std.proofs.lemmas.Bool.{cases_Bool, cases_lt, cond-true, lt-ltb}
-use Rattle.std.proofs.lemmas.List.{get_or_append_left, get_or_at, length-append}
+use Rattle.std.proofs.lemmas.Bool.{cases_Bool}
+use Rattle.std.proofs.lemmas.List.{get_or_append_left, length-append}
 use Rattle.std.proofs.Math.Seq.{take-append_seam}
 use Rattle.std.proofs.lemmas.List.Elements.{All-push, All-take}
-use Rattle.std.proofs.lemmas.List.Folds.{list_any_at}
-use Rattle.std.proofs.lemmas.List.Quantifiers.{position-Some}
+use Rattle.std.proofs.lemmas.List.Folds.{list_any-append}
 use Rattle.std.proofs.lemmas.Map.Keys.{apart_from_distinct, IsDistinct-from_apart, IsDistinct-push}
 use Rattle.std.proofs.lemmas.Map.Text.{is_eq-slice_cmp}
 use Rattle.attr_text.specs.Names.{is_valid_name}
@@ -24,20 +23,9 @@ use Rattle.attr_lists.specs.declared.name_table.name_set.NameSet.TheInside.{Insi
 use Rattle.attr_lists.specs.inner.NameSets.{texts_of, number_under, IsNameSet}
 use Rattle.attr_lists.proofs.ListLemmas.{map_copied}
 use Rattle.attr_lists.proofs.NameLemmas.{not_before}
-use Rattle.attr_lists.proofs.NamedDefinitions.{has_at, index_of, number_at, number_name}
-
--- a name has a number where it is among the names
-pub absent : (names : List (List ℕ)) (name : List ℕ) → number_of names name ≡ None → list_any (bytes_eq name) names ≡ false
-absent names name none = grind (arith, bytes_eq, true≢false, cond-true, lt-ltb, index_of, cases_Bool)
-
-pub without_number : (names : List (List ℕ)) (name : List ℕ) → list_any (bytes_eq name) names ≡ false → number_of names name ≡ None
-without_number names name none = at (number_of names name) refl
-  where
-    at : (o : Option ℕ) → number_of names name ≡ o → number_of names name ≡ None
-    at None e = e
-    at (Some n) e =
-        let here = position-Some (bytes_eq name) names n [] e in
-        absurd (true≢false (sym (list_any_at (bytes_eq name) names n [] here.0 here.1) ∙ none))
+use Rattle.attr_lists.proofs.NamedDefinitions.{absent, without_number}
+use Rattle.attr_lists.proofs.NameTableLaws.{number_kept}
+use Rattle.attr_lists.proofs.NumberLemmas.{number_of_new}
 
 pub distinct_front : (front rest : List (List ℕ)) → IsDistinct bytes_eq (front ++ rest) → IsDistinct bytes_eq front
 distinct_front front rest distinct = IsDistinct-from_apart bytes_eq front (λ i j d before lt.
@@ -45,43 +33,16 @@ distinct_front front rest distinct = IsDistinct-from_apart bytes_eq front (λ i 
     ∙ ap (λ x. bytes_eq x (get_or (front ++ rest) j d)) (sym (get_or_append_left front rest d i (omega (arith, before, lt))))
     ∙ apart_from_distinct bytes_eq (front ++ rest) i j d distinct before (omega (arith, lt, length-append front rest)))
 
--- the numbers of names after one more
-module _ (names : List (List ℕ)) (text : List ℕ) (distinct : IsDistinct bytes_eq (names ++ text ∷ [])) where
-  count : length (names ++ text ∷ []) ≡ length names + 1
-  count = length-append names (text ∷ [])
-
-  -- another name has the number that it had
-  number_of_other : (other : List ℕ) → bytes_eq text other ≡ false → number_of (names ++ text ∷ []) other ≡ number_of names other
-  number_of_other other differs = known (number_of names other) refl
-    where
-      last : (m : ℕ) → number_of (names ++ text ∷ []) other ≡ Some m → m < length names
-      last m e =
-          let here = number_name (names ++ text ∷ []) other m e in
-          ⊎_elim (λ lt. lt)
-          (λ past. absurd (true≢false (sym ((bytes_decides text other).1 (sym (get_or_at names text [] [] m (omega (arith, past, here.0, count)))
-          ∙ here.1)) ∙ differs)))
-          (cases_lt m (length names))
-
-      unknown : number_of names other ≡ None → (o : Option ℕ) → number_of (names ++ text ∷ []) other ≡ o → o ≡ None
-      unknown none None e = refl
-      unknown none (Some m) e =
-          let lt = last m e in
-          let here = number_name (names ++ text ∷ []) other m e in
-          let at : get_or names m [] ≡ other = sym (get_or_append_left names (text ∷ []) [] m lt) ∙ here.1 in
-          absurd (true≢false (sym (subst (λ x. list_any (bytes_eq x) names ≡ true) at (has_at names m lt)) ∙ absent names other none))
-
-      known : (o : Option ℕ) → number_of names other ≡ o → number_of (names ++ text ∷ []) other ≡ number_of names other
-      known None e = unknown e (number_of (names ++ text ∷ []) other) refl ∙ sym e
-      known (Some n) e =
-          let here = number_name names other n e in
-          ap (number_of (names ++ text ∷ [])) (sym (get_or_append_left names (text ∷ []) [] n here.0 ∙ here.1))
-          ∙ number_at (names ++ text ∷ []) n distinct (omega (arith, here.0, count)) ∙ sym e
-
-  -- the name at the end has the last number
-  number_of_last : (other : List ℕ) → bytes_eq text other ≡ true → number_of (names ++ text ∷ []) other ≡ Some (length names)
-  number_of_last other equals =
-      ap (number_of (names ++ text ∷ [])) (sym (get_or_at names text [] [] (length names) refl ∙ (bytes_decides text other).0 equals))
-      ∙ number_at (names ++ text ∷ []) (length names) distinct (omega (arith, count))
+-- another name has the number that it had before a name was appended
+number_of_other : (names : List (List ℕ)) (text other : List ℕ) → bytes_eq text other ≡ false
+    → number_of (names ++ text ∷ []) other ≡ number_of names other
+number_of_other names text other differs = known (number_of names other) refl
+  where
+    known : (o : Option ℕ) → number_of names other ≡ o → number_of (names ++ text ∷ []) other ≡ number_of names other
+    known None e =
+        let apart : bytes_eq other text ≡ false = nat_list_eq_equiv.symm other text ∙ differs in
+        without_number (names ++ text ∷ []) other (grind (arith, list_any-append, absent names other e, apart)) ∙ sym e
+    known (Some n) e = number_kept names (text ∷ []) other n e ∙ sym e
 
 others_stay : {K X : Type 0} (eq : K → K → Bool) (test : K → Bool) (old new : List (K × X)) → KeepsOthers eq test old new → (other : K → Bool) →
     IsKeyTest eq other → AreApart test other → lookup other new ≡ lookup other old
@@ -115,16 +76,19 @@ module _ (old new : Inside) (text : List ℕ) (is : IsNameSet old) where
   pub name_set_pushed : texts_of new ≡ texts_of old ++ text ∷ [] → number_of (texts_of old) text ≡ None → IsTrue (is_valid_name text) →
       Changes text old.numbers new.numbers (Some (length (texts_of old))) → IsNameSet new
   name_set_pushed texts none valid changes =
-      let distinct = IsDistinct-push nat_list_eq_equiv (texts_of old) text is.distinct (absent (texts_of old) text none) in
+      let absent_before = absent (texts_of old) text none in
+      let distinct = IsDistinct-push nat_list_eq_equiv (texts_of old) text is.distinct absent_before in
       let number = Some (length (texts_of old)) in
+      let last = number_of_new (texts_of old) text absent_before in
       record {
         valid = subst AreValid (sym texts) (All-push (λ n. IsTrue (is_valid_name n)) (texts_of old) text is.valid valid);
         distinct = subst (IsDistinct bytes_eq) (sym texts) distinct;
         numbers = λ other. ⊎_elim
             (λ yes. under_text text old.numbers new.numbers number changes other yes
-            ∙ sym (ap (λ l. number_of l other) texts ∙ number_of_last (texts_of old) text distinct other yes))
+            ∙ sym (ap (λ l. number_of l other) texts
+            ∙ subst (λ t. number_of (texts_of old ++ text ∷ []) t ≡ number) ((bytes_decides text other).0 yes) last))
             (λ no. under_others text old.numbers new.numbers number changes other no ∙ is.numbers other
-            ∙ sym (ap (λ l. number_of l other) texts ∙ number_of_other (texts_of old) text distinct other no))
+            ∙ sym (ap (λ l. number_of l other) texts ∙ number_of_other (texts_of old) text other no))
             (cases_Bool (bytes_eq text other));
       }
 
@@ -140,7 +104,7 @@ module _ (old new : Inside) (text : List ℕ) (is : IsNameSet old) where
             (λ yes. under_text text old.numbers new.numbers None changes other yes
             ∙ sym (subst (λ t. number_of (texts_of new) t ≡ None) ((bytes_decides text other).0 yes) gone))
             (λ no. under_others text old.numbers new.numbers None changes other no ∙ is.numbers other ∙ ap (λ l. number_of l other) texts
-            ∙ number_of_other (texts_of new) text distinct other no)
+            ∙ number_of_other (texts_of new) text other no)
             (cases_Bool (bytes_eq text other));
       }
 

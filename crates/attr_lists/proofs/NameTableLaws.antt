@@ -1,35 +1,36 @@
 -- What the addition and the removal of a list do to a collection, and to its other lists.
-use Rattle.std.proofs.Common.{◌≡◌, ◌≢◌, ℕ, zero, suc, ◌<◌, ◌≤◌, true, false, not, eqb, List, [], ◌∷◌, ◌++◌, length}
+use Rattle.std.proofs.Common.{◌≡◌, ◌≢◌, ℕ, zero, suc, ◌+◌, ◌<◌, ◌≤◌, true, false, not, eqb, List, [], ◌∷◌, ◌++◌, length}
 use Rattle.std.proofs.Common.{get_or, map, filter, All, slice_get, bytes_eq, Option, Some, None, IfSome, unwrap_or, option_map, refl}
 use Rattle.std.proofs.Common.{sym, ap, subst, ◌∙◌, ⊎_elim, arith, true≢false, ne_eqb, eq-eqb}
 use Rattle.std.specs.Prelude.{◌==◌, ◌||◌}
 use Rattle.std.specs.List.{list_any, flat_map, position_or_len, AllPairs, IsDistinct}
 use Rattle.std.specs.Cmp.Lexicographic.{bytes_decides}
 use Rattle.std.proofs.lemmas.Bool.{cases_Bool, cases_lt, cond-true, cond-false, eqb-true, eqb-false, lt-ltb, le-ltb, or_left, or_right, or_parts}
-use Rattle.std.proofs.lemmas.List.{append-nil, length-append, get_or_append_left, map-append}
+use Rattle.std.proofs.lemmas.List.{append-nil, length-append, length-map, get_or_append_left, get_or-append-add, map-append}
 use Rattle.std.proofs.lemmas.List.Concat.{flat_map-append}
 use Rattle.std.proofs.lemmas.List.Elements.{All-nil, All-cons, All-head, All-tail, All-append, All-filter, All-map, All-weaker, filter-append}
 use Rattle.std.proofs.lemmas.List.Folds.{list_any-append, prefix_len-append}
 use Rattle.std.proofs.lemmas.List.Kept.{AllPairs-filter}
 use Rattle.std.proofs.lemmas.List.Quantifiers.{all_pairs_push}
 use Rattle.std.proofs.lemmas.List.Sums.{passes_at_first}
-use Rattle.std.proofs.lemmas.Option.{get_or_from_slice_get, slice_get_within}
+use Rattle.std.proofs.lemmas.Map.Views.{any-filter_same}
+use Rattle.std.proofs.lemmas.Option.{get_or_from_slice_get, slice_get_within, slice_get-get_or}
 use Rattle.attr_lists.specs.declared.types.AttributeId.{AttributeId}
 use Rattle.attr_lists.specs.declared.types.TrackedAssignment.{TrackedAssignment}
-use Rattle.attr_lists.specs.Definitions.{is_definition, bodies_defined, bodies_named, definition_of, is_of_list, bodies_of_list, of_other_lists}
-use Rattle.attr_lists.specs.Definitions.{bodies_of_number, definitions_by, definitions_of, definitions_for, is_registered, macros_defined}
-use Rattle.attr_lists.specs.Definitions.{with_list, without_list, HoldsList, IsWithin, IsSoundCollection}
-use Rattle.attr_lists.specs.shared.Keeping.{HasMacroNumber, IsNumbered}
-use Rattle.attr_lists.proofs.NamedDefinitions.{Has, itself, index_of, number_at, number_name, defined_by_name, none_by_name}
+use Rattle.attr_lists.specs.Definitions.{bodies_named, definition_of, is_of_list, bodies_of_list, of_other_lists}
+use Rattle.attr_lists.specs.Definitions.{bodies_of_number, definitions_by, definitions_of, definitions_for, is_registered}
+use Rattle.attr_lists.specs.Definitions.{macro_defined, macros_defined, with_list, without_list, HoldsList, IsSoundCollection}
+use Rattle.attr_lists.specs.shared.Keeping.{IsNumbered}
+use Rattle.attr_lists.proofs.NamedDefinitions.{Has, itself, index_of, number_at, number_name, bodies_by_name, bodies_by_number}
 use Rattle.attr_lists.specs.inner.EntryViews.{AreValid}
 use Rattle.attr_lists.specs.ListViews.{Entry}
 use Rattle.attr_lists.specs.Collections.{MacroDefinition, NumberedBody, RegisteredList, Collection}
 use Rattle.attr_lists.specs.Numbers.{macro_names, names_of, names_in, with_name, with_names, number_of, id_of, numbered_item, numbered}
-use Rattle.attr_lists.specs.Numbers.{numbered_lines, AreNamed, IsNumberOf}
-use Rattle.attr_lists.proofs.DefinitionLemmas.{bodies_defined-cons, bodies_defined-none, bodies_of_list-append}
-use Rattle.attr_lists.proofs.DefinitionLemmas.{of_other_lists-append, of_other_lists-own}
-use Rattle.std.proofs.lemmas.Option.{slice_get-get_or}
+use Rattle.attr_lists.specs.Numbers.{numbered_lines, AppendsNames, AreNamed, IsNumberOf}
+use Rattle.attr_lists.proofs.DefinitionLemmas.{bodies_of_list-append, of_other_lists-append, of_other_lists-own}
+use Rattle.attr_lists.proofs.ListLemmas.{get_or-map}
 use Rattle.attr_lists.proofs.NameLemmas.{with_name-known, with_name-new, with_names-extends, with_names-distinct}
+use Rattle.attr_lists.proofs.RunLemmas.{keep_none}
 
 -- ---- numbers
 
@@ -50,16 +51,13 @@ has_all known (name ∷ names) =
     (has_all (with_name known name) names)
 
 all_left : {X : Type 0} (P : X → Type 0) (xs ys : List X) → All P (xs ++ ys) → All P xs
-all_left P [] ys h = All-nil P
-all_left P (x ∷ xs) ys h = All-cons P x xs (All-head P x (xs ++ ys) h) (all_left P xs ys (All-tail P x (xs ++ ys) h))
+all_left P xs ys h = λ k d lt. subst P (get_or_append_left xs ys d k lt) (h k d (omega (arith, lt, length-append xs ys)))
 
 all_right : {X : Type 0} (P : X → Type 0) (xs ys : List X) → All P (xs ++ ys) → All P ys
-all_right P [] ys h = h
-all_right P (x ∷ xs) ys h = all_right P xs ys (All-tail P x (xs ++ ys) h)
+all_right P xs ys h = λ k d lt. subst P (get_or-append-add xs ys k d) (h (length xs + k) d (omega (arith, lt, length-append xs ys)))
 
 pub all_of_map : {X Y : Type 0} (P : Y → Type 0) (f : X → Y) (xs : List X) → All P (map f xs) → All (λ x. P (f x)) xs
-all_of_map P f [] h = All-nil (λ x. P (f x))
-all_of_map P f (x ∷ xs) h = All-cons (λ y. P (f y)) x xs (All-head P (f x) (map f xs) h) (all_of_map P f xs (All-tail P (f x) (map f xs) h))
+all_of_map P f xs h = λ k d lt. subst P (get_or-map f xs k d) (h k (f d) (omega (arith, lt, length-map xs f)))
 
 pub number_is : (names : List (List ℕ)) (name : List ℕ) → Has names name → IsNumberOf names name (id_of names name)
 number_is names name h =
@@ -145,56 +143,66 @@ line_stays known more entry =
         ap Some (id_stays (with_names known (names_of entry)) more entry.pattern.text
         (All-head (Has (with_names known (names_of entry))) entry.pattern.text [] has))
 
-pub count_more : (known names : List (List ℕ)) → length known ≤ length (with_names known names)
-count_more known names = let more = with_names-extends known names in omega (arith, ap length more.1, length-append known more.0)
-
 -- a number stays that of its name
 get_still : {X : Type 0} (xs more : List X) (i : ℕ) (x : X) → slice_get xs i ≡ Some x → slice_get (xs ++ more) i ≡ Some x
 get_still (y ∷ ys) more (suc i) x h = get_still ys more i x h
 get_still xs more i x h = grind arith
 
-number_still : (known names : List (List ℕ)) (name : List ℕ) (id : AttributeId) → IsNumberOf known name id → IsNumberOf (with_names known names) name
-    id
-number_still known names name id h =
-    let more = with_names-extends known names in subst (λ l. slice_get l id.0 ≡ Some name) (sym more.1) (get_still known more.0 id.0 name h)
+-- so items stay named
+named_still : (known names : List (List ℕ)) (items : List TrackedAssignment) → AppendsNames known names → AreNamed known items → AreNamed names items
+named_still known names items more h = λ k d lt. rw more.1 (get_still known more.0 _ _ (h k d lt))
 
--- items stay named
-pub named_still : (known names : List (List ℕ)) (items : List TrackedAssignment) → AreNamed known items → AreNamed (with_names known names) items
-named_still known names items h = grind (arith, number_still)
+-- the numbers of items that are named are those of names
+pub items_within : (names : List (List ℕ)) (items : List TrackedAssignment) → AreNamed names items → All (λ item. item.id.0 < length names) items
+items_within names items h = λ k d lt. slice_get_within names _ _ (h k d lt)
+
+-- a collection with more names is sound
+pub named_sound : (old : Collection) (names : List (List ℕ)) → AppendsNames old.names names → IsSoundCollection old → AreValid names
+    → IsDistinct bytes_eq names → IsSoundCollection (record { names = names; lists = old.lists })
+named_sound old names more sound valid distinct =
+    let named : (number : ℕ) → All (λ d. AreNamed names d.body) (definitions_of old number) =
+    λ number k d lt. named_still old.names names _ more (sound.named number k d lt) in
+    record {
+      valid = valid;
+      distinct = distinct;
+      ids = sound.ids;
+      numbers = λ number past. sound.numbers number (omega (arith, past, ap length more.1, length-append old.names more.0));
+      within = λ number k d lt. items_within names _ (named number k d lt);
+      named = named;
+    }
 
 -- ---- definitions
 
--- no line defines a macro with a number that no name has
-pub bodies_past : (names : List (List ℕ)) (lines : List Entry) (number : ℕ) → length names ≤ number → All (IsNumbered names) lines → bodies_defined
-    number lines ≡ []
-bodies_past names [] number past h = refl
-bodies_past names (line ∷ lines) number past h =
-    bodies_defined-cons number line lines ∙ ap (λ b. b ++ bodies_defined number lines)
-    (bodies_defined-none number line (none line.macro (All-head (IsNumbered names) line lines h).macro))
-    ∙ bodies_past names lines number past (All-tail (IsNumbered names) line lines h)
+-- the macros of numbered lines have numbers of names, and their items are named
+abbrev IsNamedBody : List (List ℕ) → NumberedBody → Type 0
+IsNamedBody names b = (b.number < length names) × AreNamed names b.body
+
+macros_named : (names : List (List ℕ)) (lines : List Entry) → All (IsNumbered names) lines → All (IsNamedBody names) (macros_defined lines)
+macros_named names [] h = All-nil (IsNamedBody names)
+macros_named names (line ∷ lines) h =
+    All-append (IsNamedBody names) (macro_defined line) (macros_defined lines) (one line.macro (All-head (IsNumbered names) line lines h).macro)
+    (macros_named names lines (All-tail (IsNumbered names) line lines h))
   where
-    none : (m : Option AttributeId) → IfSome m (IsNumberOf names line.pattern.text) → unwrap_or (option_map (λ (id : AttributeId). eqb id.0 number) m)
-        false ≡ false
-    none m i = grind (arith, slice_get_within, ne_eqb)
+    one : (m : Option AttributeId) → IfSome m (IsNumberOf names line.pattern.text)
+        → All (IsNamedBody names) (unwrap_or (option_map (λ id. record { number = id.0; body = line.items } ∷ []) m) [])
+    one None is = All-nil (IsNamedBody names)
+    one (Some id) is =
+        All-cons (IsNamedBody names) (record { number = id.0; body = line.items }) []
+        (slice_get_within names id.0 line.pattern.text is, (All-head (IsNumbered names) line lines h).items) (All-nil (IsNamedBody names))
 
--- the bodies of numbered lines have numbers of names
-bodies_within : (names : List (List ℕ)) (list_id number : ℕ) (lines : List Entry) → All (IsNumbered names) lines → All (IsWithin (length names))
-    (map (definition_of list_id) (bodies_defined number lines))
-bodies_within names list_id number lines h =
-    let IsIn : List TrackedAssignment → Type 0 = λ items. All (λ (item : TrackedAssignment). item.id.0 < length names) items in
-    All-map (IsWithin (length names)) (definition_of list_id) (bodies_defined number lines)
-    (All-map IsIn (λ (e : Entry). e.items) (filter (is_definition number) lines)
-    (All-filter (is_definition number) (λ (e : Entry). IsIn e.items) lines
-    (All-weaker (IsNumbered names) (λ (e : Entry). IsIn e.items) (λ e is. grind (arith, slice_get_within)) lines h)))
+-- so they have no body of a number that no name has
+bodies_past : (names : List (List ℕ)) (macros : List NumberedBody) (number : ℕ) → All (IsNamedBody names) macros → length names ≤ number
+    → bodies_of_number number macros ≡ []
+bodies_past names macros number h past =
+    ap (map (λ (b : NumberedBody). b.body))
+    (keep_none (λ b. eqb b.number number) macros (λ k d lt. ne_eqb _ number (λ e. omega (arith, e, past, (h k d lt).0))))
 
--- and they are named
-bodies_named_by : (names : List (List ℕ)) (list_id number : ℕ) (lines : List Entry) → All (IsNumbered names) lines → All
-    (λ d. AreNamed names d.body) (map (definition_of list_id) (bodies_defined number lines))
-bodies_named_by names list_id number lines h =
-    All-map (λ (d : MacroDefinition). AreNamed names d.body) (definition_of list_id) (bodies_defined number lines)
-    (All-map (AreNamed names) (λ (e : Entry). e.items) (filter (is_definition number) lines)
-    (All-filter (is_definition number) (λ (e : Entry). AreNamed names e.items) lines
-    (All-weaker (IsNumbered names) (λ (e : Entry). AreNamed names e.items) (λ e is. is.items) lines h)))
+bodies_named_by : (names : List (List ℕ)) (list_id number : ℕ) (macros : List NumberedBody) → All (IsNamedBody names) macros → All
+    (λ d. AreNamed names d.body) (map (definition_of list_id) (bodies_of_number number macros))
+bodies_named_by names list_id number macros h =
+    All-map (λ (d : MacroDefinition). AreNamed names d.body) (definition_of list_id) (bodies_of_number number macros)
+    (All-map (AreNamed names) (λ (b : NumberedBody). b.body) (filter (λ b. eqb b.number number) macros)
+    (All-filter (λ b. eqb b.number number) (λ (b : NumberedBody). AreNamed names b.body) macros (λ k d lt. (h k d lt).1)))
 
 eqb_self : (n : ℕ) → eqb n n ≡ true
 eqb_self n = eq-eqb n n refl
@@ -220,9 +228,6 @@ bodies_of_list-of_other_lists : (other list_id : ℕ) (ds : List MacroDefinition
 bodies_of_list-of_other_lists other list_id [] apart = refl
 bodies_of_list-of_other_lists other list_id (d ∷ ds) apart =
     grind (arith, cond-false, filter, ne_eqb, eqb-true, cond-true, cases_Bool, bodies_of_list-of_other_lists other list_id ds apart)
-
-some_is : {a b : ℕ} → Some a ≡ Some b → a ≡ b
-some_is e = cc
 
 none_is : {b : ℕ} → None ≡ Some b → ⊥
 none_is e = cc
@@ -291,11 +296,6 @@ pub bodies_of_number-append : (number : ℕ) (xs ys : List NumberedBody)
     → bodies_of_number number (xs ++ ys) ≡ bodies_of_number number xs ++ bodies_of_number number ys
 bodies_of_number-append number xs ys = grind (arith, filter-append, map-append, filter)
 
--- the macros of lines have the bodies that the lines define
-pub bodies_of_lines : (number : ℕ) (lines : List Entry) → bodies_of_number number (macros_defined lines) ≡ bodies_defined number lines
-bodies_of_lines number [] = refl
-bodies_of_lines number (line ∷ lines) = grind (arith, bodies_of_number-append, bodies_defined-cons, unwrap_or, bodies_of_lines number lines)
-
 -- ---- a list is added
 
 module _ (old : Collection) (list_id : ℕ) (entries : List Entry) where
@@ -305,49 +305,41 @@ module _ (old : Collection) (list_id : ℕ) (entries : List Entry) where
   abbrev lines : List Entry
   lines = numbered_lines names entries
 
+  abbrev macros : List NumberedBody
+  macros = macros_defined lines
+
   abbrev own : RegisteredList
-  own = record { list_id = list_id; macros = macros_defined lines }
+  own = record { list_id = list_id; macros = macros }
 
   abbrev new : Collection
   new = with_list list_id entries old
 
-  more : length old.names ≤ length names
-  more = count_more old.names (names_in entries)
-
   -- the definitions of a number after an addition
   pub added_at : (number : ℕ)
-      → definitions_of new number ≡ definitions_of old number ++ map (definition_of list_id) (bodies_defined number lines)
+      → definitions_of new number ≡ definitions_of old number ++ map (definition_of list_id) (bodies_of_number number macros)
   added_at number =
       flat_map-append (definitions_by number) old.lists (own ∷ [])
-      ∙ ap (λ ds. definitions_of old number ++ ds)
-      (append-nil (definitions_by number own) ∙ ap (map (definition_of list_id)) (bodies_of_lines number lines))
+      ∙ ap (λ ds. definitions_of old number ++ ds) (append-nil (definitions_by number own))
 
   -- the list is registered then
   pub added_registered : is_registered new list_id ≡ true
-  added_registered =
-      list_any-append (λ (l : RegisteredList). l.list_id == list_id) old.lists (own ∷ [])
-      ∙ or_right (list_any (λ (l : RegisteredList). l.list_id == list_id) old.lists) (eqb list_id list_id || false)
-      (or_left (eqb list_id list_id) false (eqb_self list_id))
+  added_registered = grind (arith, list_any-append, eqb_self, or_right, or_left)
 
   -- and so are the others
   pub still_registered : (other : ℕ) → is_registered old other ≡ true → is_registered new other ≡ true
-  still_registered other h =
-      list_any-append (λ (l : RegisteredList). l.list_id == other) old.lists (own ∷ [])
-      ∙ or_left (list_any (λ (l : RegisteredList). l.list_id == other) old.lists) (list_any (λ (l : RegisteredList). l.list_id == other) (own ∷ [])) h
+  still_registered other h = grind (arith, list_any-append, or_left)
 
   module _ (sound : IsSoundCollection old) where
-    macros_numbered : All (HasMacroNumber names) lines
-    macros_numbered = All-weaker (IsNumbered names) (HasMacroNumber names) (λ e is. is.macro) lines (list_numbered old.names entries)
-
     distinct_now : IsDistinct bytes_eq names
     distinct_now = with_names-distinct old.names (names_in entries) sound.distinct
 
-    -- the definitions that a name had
-    had_before : (name : List ℕ) (n : ℕ) → number_of names name ≡ Some n → (o : Option ℕ) → number_of old.names name ≡ o
-        → definitions_of old n ≡ unwrap_or (option_map (definitions_of old) o) []
-    had_before name n e (Some k) f =
-        ap (definitions_of old) (some_is (sym e ∙ number_stays old.names (names_in entries) name k f))
-    had_before name n e None f =
+    -- a name that is new has no definition in the other lists
+    had_before : (name : List ℕ) (before now : Option ℕ) → number_of old.names name ≡ before → number_of names name ≡ now
+        → unwrap_or (option_map (definitions_of old) now) [] ≡ unwrap_or (option_map (definitions_of old) before) []
+    had_before name (Some k) now f e =
+        ap (λ o. unwrap_or (option_map (definitions_of old) o) []) (sym e ∙ number_stays old.names (names_in entries) name k f)
+    had_before name None None f e = refl
+    had_before name None (Some n) f e =
         ⊎_elim
         (λ (lt : n < length old.names).
         let more = with_names-extends old.names (names_in entries) in
@@ -357,52 +349,41 @@ module _ (old : Collection) (list_id : ℕ) (entries : List Entry) where
         (λ past. sound.numbers n past)
         (cases_lt n (length old.names))
 
-    -- a name that is not there now was not there before
-    none_before : (name : List ℕ) → number_of names name ≡ None → (o : Option ℕ) → number_of old.names name ≡ o
-        → unwrap_or (option_map (definitions_of old) o) [] ≡ []
-    none_before name e (Some k) f = absurd (none_is (sym e ∙ number_stays old.names (names_in entries) name k f))
-    none_before name e None f = refl
-
-    for_option : (name : List ℕ) (o : Option ℕ) → number_of names name ≡ o → unwrap_or (option_map (definitions_of new) o) []
-        ≡ definitions_for old name ++ map (definition_of list_id) (bodies_named name lines)
-    for_option name None e =
-        sym (ap (λ ds. ds ++ map (definition_of list_id) (bodies_named name lines)) (none_before name e (number_of old.names name) refl)
-        ∙ ap (map (definition_of list_id)) (none_by_name names distinct_now name e lines macros_numbered))
-    for_option name (Some n) e =
-        added_at n
-        ∙ (ap (λ ds. ds ++ map (definition_of list_id) (bodies_defined n lines)) (had_before name n e (number_of old.names name) refl)
-        ∙ ap (λ bs. definitions_for old name ++ map (definition_of list_id) bs) (defined_by_name names distinct_now name n e lines macros_numbered))
-
     -- the definitions of a name after an addition
     pub added_for : (name : List ℕ) → definitions_for new name ≡ definitions_for old name ++ map (definition_of list_id) (bodies_named name lines)
-    added_for name = for_option name (number_of names name) refl
-
-    added_all : (P : MacroDefinition → Type 0) (number : ℕ) → All P (definitions_of old number)
-        → All P (map (definition_of list_id) (bodies_defined number lines)) → All P (definitions_of new number)
-    added_all P number before here =
-        subst (All P) (sym (added_at number))
-        (All-append P (definitions_of old number) (map (definition_of list_id) (bodies_defined number lines)) before here)
+    added_for name =
+        by_number (number_of names name)
+        ∙ ap (λ ds. ds ++ map (definition_of list_id) (unwrap_or (option_map (λ n. bodies_of_number n macros) (number_of names name)) []))
+        (had_before name (number_of old.names name) (number_of names name) refl refl)
+        ∙ ap (λ bs. definitions_for old name ++ map (definition_of list_id) bs)
+        (sym (bodies_by_number names name distinct_now (number_of names name) refl macros)
+        ∙ bodies_by_name names name lines (λ k d lt. (list_numbered old.names entries k d lt).macro))
+      where
+        by_number : (o : Option ℕ) → unwrap_or (option_map (definitions_of new) o) [] ≡ unwrap_or (option_map (definitions_of old) o) []
+            ++ map (definition_of list_id) (unwrap_or (option_map (λ n. bodies_of_number n macros) o) [])
+        by_number None = refl
+        by_number (Some n) = added_at n
 
     module _ (fresh : is_registered old list_id ≡ false) where
       -- the collection after an addition is sound
       pub added_sound : AreValid names → IsSoundCollection new
-      added_sound valid = record {
-        valid = valid;
-        distinct = distinct_now;
-        ids = all_pairs_push (λ x y. x.list_id ≢ y.list_id) old.lists own sound.ids (none_registered list_id old.lists fresh);
-        numbers = λ number past. added_at number
-            ∙ (ap (λ ds. ds ++ map (definition_of list_id) (bodies_defined number lines)) (sound.numbers number (omega (arith, past, more)))
-            ∙ ap (map (definition_of list_id)) (bodies_past names lines number past (list_numbered old.names entries)));
-        within = λ number. added_all (IsWithin (length names)) number
-            (All-weaker (IsWithin (length old.names)) (IsWithin (length names))
-            (λ d h. All-weaker (λ (item : TrackedAssignment). item.id.0 < length old.names) (λ (item : TrackedAssignment). item.id.0 < length names)
-            (λ item i. omega (arith, more)) d.body h) (definitions_of old number) (sound.within number))
-            (bodies_within names list_id number lines (list_numbered old.names entries));
-        named = λ number. added_all (λ d. AreNamed names d.body) number
-            (All-weaker (λ d. AreNamed old.names d.body) (λ d. AreNamed names d.body)
-            (λ d h. named_still old.names (names_in entries) d.body h) (definitions_of old number) (sound.named number))
-            (bodies_named_by names list_id number lines (list_numbered old.names entries));
-      }
+      added_sound valid =
+          let first = named_sound old names (with_names-extends old.names (names_in entries)) sound valid distinct_now in
+          let bodies = macros_named names lines (list_numbered old.names entries) in
+          let Named = λ (d : MacroDefinition). AreNamed names d.body in
+          let named : (number : ℕ) → All Named (definitions_of new number) = λ number. subst (All Named) (sym (added_at number))
+          (All-append Named (definitions_of old number) (map (definition_of list_id) (bodies_of_number number macros)) (first.named number)
+          (bodies_named_by names list_id number macros bodies)) in
+          record {
+            valid = valid;
+            distinct = distinct_now;
+            ids = all_pairs_push (λ x y. x.list_id ≢ y.list_id) old.lists own sound.ids (none_registered list_id old.lists fresh);
+            numbers = λ number past. added_at number
+                ∙ ap (λ ds. ds ++ map (definition_of list_id) (bodies_of_number number macros)) (first.numbers number past)
+                ∙ ap (map (definition_of list_id)) (bodies_past names macros number bodies past);
+            within = λ number k d lt. items_within names _ (named number k d lt);
+            named = named;
+          }
 
       none_for : (name : List ℕ) → bodies_of_list list_id (definitions_for old name) ≡ []
       none_for name = at (number_of old.names name)
@@ -415,10 +396,7 @@ module _ (old : Collection) (list_id : ℕ) (entries : List Entry) where
       pub added_holds : HoldsList new list_id lines
       added_holds = record {
         registered = added_registered;
-        bodies = λ name. ap (bodies_of_list list_id) (added_for name)
-            ∙ (bodies_of_list-append list_id (definitions_for old name) (map (definition_of list_id) (bodies_named name lines))
-            ∙ (ap (λ l. l ++ bodies_of_list list_id (map (definition_of list_id) (bodies_named name lines))) (none_for name)
-            ∙ bodies_of_list-own list_id (bodies_named name lines)));
+        bodies = λ name. grind (arith, added_for name, bodies_of_list-append, none_for name, bodies_of_list-own);
       }
 
       -- the other lists stay registered
@@ -427,10 +405,7 @@ module _ (old : Collection) (list_id : ℕ) (entries : List Entry) where
           let apart : other ≢ list_id = λ e. true≢false (sym h.registered ∙ ap (is_registered old) e ∙ fresh) in
           record {
             registered = still_registered other h.registered;
-            bodies = λ name. ap (bodies_of_list other) (added_for name)
-                ∙ (bodies_of_list-append other (definitions_for old name) (map (definition_of list_id) (bodies_named name lines))
-                ∙ (ap (λ l. bodies_of_list other (definitions_for old name) ++ l) (bodies_of_list-other other list_id (bodies_named name lines) apart)
-                ∙ (append-nil (bodies_of_list other (definitions_for old name)) ∙ h.bodies name)));
+            bodies = λ name. grind (arith, added_for name, bodies_of_list-append, bodies_of_list-other, apart, append-nil, h.bodies name);
           }
 
 -- ---- a list is removed
@@ -443,22 +418,19 @@ module _ (old : Collection) (gone : ℕ) where
       → definitions_in number (others lists) ≡ of_other_lists gone (definitions_in number lists)
   others_left number [] = refl
   others_left number (l ∷ lists) =
-      let mine = definitions_by number l in
-      let bodies = bodies_of_number number l.macros in
-      ⊎_elim
-      (λ own.
-      ap (definitions_in number) (cond-false (not (eqb l.list_id gone)) (l ∷ others lists) (others lists) (ap not own))
-      ∙ others_left number lists
-      ∙ sym (of_other_lists-append gone mine (definitions_in number lists)
-      ∙ ap (λ ds. ds ++ of_other_lists gone (definitions_in number lists))
-      (ap (λ id. of_other_lists gone (map (definition_of id) bodies)) (eqb-true l.list_id gone own) ∙ of_other_lists-own gone bodies)))
-      (λ other.
-      ap (definitions_in number) (cond-true (not (eqb l.list_id gone)) (l ∷ others lists) (others lists) (ap not other))
-      ∙ ap (λ ds. mine ++ ds) (others_left number lists)
-      ∙ sym (of_other_lists-append gone mine (definitions_in number lists)
-      ∙ ap (λ ds. ds ++ of_other_lists gone (definitions_in number lists))
-      (of_other_lists-free gone mine (bodies_of_list-other gone l.list_id bodies (λ e. eqb-false l.list_id gone other (sym e))))))
-      (cases_Bool (eqb l.list_id gone))
+      grind (
+        arith,
+        cond-true,
+        cond-false,
+        cases_Bool,
+        eqb-true,
+        eqb-false,
+        of_other_lists-append,
+        of_other_lists-own,
+        of_other_lists-free,
+        bodies_of_list-other,
+        others_left number lists,
+      )
 
   -- the definitions of a number after a removal
   pub removed_at : (number : ℕ) → definitions_of (without_list gone old) number ≡ of_other_lists gone (definitions_of old number)
@@ -473,44 +445,29 @@ module _ (old : Collection) (gone : ℕ) where
       at None = refl
       at (Some n) = removed_at n
 
-  removed_all : (P : MacroDefinition → Type 0) (number : ℕ) → All P (definitions_of old number)
-      → All P (definitions_of (without_list gone old) number)
-  removed_all P number h =
-      subst (All P) (sym (removed_at number)) (All-filter (λ d. not (is_of_list gone d)) P (definitions_of old number) h)
-
   pub removed_sound : IsSoundCollection old → IsSoundCollection (without_list gone old)
-  removed_sound sound = record {
-    valid = sound.valid;
-    distinct = sound.distinct;
-    ids = AllPairs-filter (λ x y. x.list_id ≢ y.list_id) (λ l. not (l.list_id == gone)) old.lists sound.ids;
-    numbers = λ number past. removed_at number ∙ ap (of_other_lists gone) (sound.numbers number past);
-    within = λ number. removed_all (IsWithin (length old.names)) number (sound.within number);
-    named = λ number. removed_all (λ d. AreNamed old.names d.body) number (sound.named number);
-  }
+  removed_sound sound =
+      let Named = λ (d : MacroDefinition). AreNamed old.names d.body in
+      let named : (number : ℕ) → All Named (definitions_of (without_list gone old) number) = λ number.
+      subst (All Named) (sym (removed_at number))
+      (All-filter (λ d. not (is_of_list gone d)) Named (definitions_of old number) (sound.named number)) in
+      record {
+        valid = sound.valid;
+        distinct = sound.distinct;
+        ids = AllPairs-filter (λ x y. x.list_id ≢ y.list_id) (λ l. not (l.list_id == gone)) old.lists sound.ids;
+        numbers = λ number past. removed_at number ∙ ap (of_other_lists gone) (sound.numbers number past);
+        within = λ number k d lt. items_within old.names _ (named number k d lt);
+        named = named;
+      }
 
-  left_registered : (other : ℕ) (lists : List RegisteredList) → other ≢ gone → list_any (λ l. l.list_id == other) lists ≡ true
-      → list_any (λ l. l.list_id == other) (others lists) ≡ true
-  left_registered other [] apart h = h
-  left_registered other (l ∷ lists) apart h =
-      let rest = list_any (λ l. l.list_id == other) lists in
-      let left = list_any (λ l. l.list_id == other) (others lists) in
-      ⊎_elim
-      (λ own.
-      let differs : eqb l.list_id other ≡ false = ne_eqb l.list_id other (λ e. apart (sym e ∙ eqb-true l.list_id gone own)) in
-      ap (list_any (λ l. l.list_id == other)) (cond-false (not (eqb l.list_id gone)) (l ∷ others lists) (others lists) (ap not own))
-      ∙ left_registered other lists apart (sym (ap (λ b. b || rest) differs) ∙ h))
-      (λ kept.
-      ap (list_any (λ l. l.list_id == other)) (cond-true (not (eqb l.list_id gone)) (l ∷ others lists) (others lists) (ap not kept))
-      ∙ ⊎_elim
-      (λ here. or_left (eqb l.list_id other) left here)
-      (λ there. or_right (eqb l.list_id other) left (left_registered other lists apart (sym (ap (λ b. b || rest) there) ∙ h)))
-      (cases_Bool (eqb l.list_id other)))
-      (cases_Bool (eqb l.list_id gone))
+  left_registered : (other : ℕ) → other ≢ gone → is_registered old other ≡ true → is_registered (without_list gone old) other ≡ true
+  left_registered other apart h =
+      any-filter_same (λ l. l.list_id == other) (λ l. not (l.list_id == gone)) true (λ l is. grind (arith, eqb-true, ne_eqb)) old.lists ∙ h
 
   -- the other lists stay registered
   pub removed_keeps : (other : ℕ) (es : List Entry) → other ≢ gone → HoldsList old other es → HoldsList (without_list gone old) other es
   removed_keeps other es apart h = record {
-    registered = left_registered other old.lists apart h.registered;
+    registered = left_registered other apart h.registered;
     bodies = λ name. ap (bodies_of_list other) (removed_for name)
         ∙ (bodies_of_list-of_other_lists other gone (definitions_for old name) apart ∙ h.bodies name);
   }

@@ -1,10 +1,10 @@
 -- Lines whose items have the numbers of their names.
-use Rattle.std.proofs.Common.{◌≡◌, ℕ, ◌+◌, ◌<◌, ◌≤◌, true, false, ltb, List, [], ◌∷◌, ◌++◌, length, get_or, set, map, drop, bytes_eq}
-use Rattle.std.proofs.Common.{Some, None, sym, ap, subst, ◌∙◌, ⊎_elim, true≢false, arith}
-use Rattle.std.specs.List.{list_any, position_or_len}
-use Rattle.std.specs.Cmp.Lexicographic.{bytes_decides}
-use Rattle.std.proofs.lemmas.Bool.{cases_lt, cond-true, lt-ltb}
-use Rattle.std.proofs.lemmas.List.{length-append, length-map, map-set, get_or_append_left, get_or_default}
+use Rattle.std.proofs.Common.{◌≡◌, ℕ, ◌+◌, ◌<◌, true, false, cond, ltb, List, [], ◌∷◌, ◌++◌, length, get_or, set, map, drop, bytes_eq}
+use Rattle.std.proofs.Common.{Some, None, refl, sym, ap, subst, ◌∙◌, arith}
+use Rattle.std.specs.List.{list_any}
+use Rattle.std.proofs.lemmas.Bool.{cases_Bool, cond-true, lt-ltb}
+use Rattle.std.proofs.lemmas.List.Sums.{position_or_len_is}
+use Rattle.std.proofs.lemmas.List.{length-append, length-map, get_or_append_left, get_or_at, get_or_default}
 use Rattle.std.proofs.lemmas.List.Folds.{list_any_at}
 use Rattle.std.proofs.lemmas.List.Quantifiers.{position-Some}
 use Rattle.attr_glob.specs.declared.search.pattern.Mapping.{Mapping}
@@ -13,10 +13,10 @@ use Rattle.attr_lists.specs.declared.types.Value.{Value}
 use Rattle.attr_lists.specs.KeptLists.{macro_valid, macros_valid}
 use Rattle.attr_lists.specs.ListViews.{entry_view, entries_view}
 use Rattle.attr_lists.specs.Numbers.{names_of, names_in, number_of, id_of, with_name, with_names, numbered_item, numbered}
-use Rattle.attr_lists.proofs.NameLemmas.{items_step, lines_step, with_name-known, with_name-new}
+use Rattle.attr_lists.proofs.NameLemmas.{items_step, lines_step, with_name-known}
 use Rattle.attr_lists.proofs.NameTableLaws.{has_own, id_stays, line_stays}
-use Rattle.attr_lists.proofs.NamedDefinitions.{Has, index_of, number_name}
-use Rattle.attr_lists.proofs.ListLemmas.{front, front-at, front-more, get_or-map, list_all-within}
+use Rattle.attr_lists.proofs.NamedDefinitions.{Has, itself}
+use Rattle.attr_lists.proofs.ListLemmas.{front, front-at, front-more, front-step, get_or-map, list_all-within}
 
 -- the next line is as it was
 at_front : (names : List (List ℕ)) (start lines : List (Mapping Value)) (i : ℕ) (d : Mapping Value) → entries_view lines ≡ front (numbered names) i
@@ -30,15 +30,6 @@ pub unnumbered_valid : (names : List (List ℕ)) (start lines : List (Mapping Va
 unnumbered_valid names start lines i d lt e valid =
     ap macro_valid (at_front names start lines i d e) ∙ list_all-within macro_valid (entries_view start) i (entry_view d)
     (omega (arith, length-map start entry_view)) valid
-
--- one more line gets its numbers
-pub number_list_step : (names : List (List ℕ)) (start lines : List (Mapping Value)) (i : ℕ) (d now : Mapping Value) → i < length start → entries_view
-    lines ≡ front (numbered names) i (entries_view start) → entry_view now ≡ numbered names (entry_view (get_or lines i d)) → entries_view
-    (set lines i now) ≡ front (numbered names) (i + 1) (entries_view start)
-number_list_step names start lines i d now lt e is =
-    map-set entry_view lines i now
-    ∙ front-more (numbered names) i (entries_view start) (entries_view lines) (entry_view now) (entry_view d)
-    (omega (arith, length-map start entry_view)) (is ∙ ap (numbered names) (sym (get_or-map entry_view lines i d))) e
 
 abbrev names : List TrackedAssignment → List (List ℕ)
 names items = map (λ x. x.inner.name) items
@@ -84,7 +75,7 @@ module _ (start : List (List ℕ)) (lines : List (Mapping Value)) where
       ap (λ l. numbered l (entry_view own)) taken ∙ line_stays known more (entry_view own)
       ∙ ap (λ l. numbered (with_names l more) (entry_view own)) (sym taken) ∙ ap (λ l. numbered l (entry_view own)) rest in (
         rest,
-        number_list_step all lines done i d line lt e (is ∙ ap (numbered now) here ∙ stays ∙ ap (numbered all) (sym here)),
+        front-step entry_view (numbered all) lines done i d line lt e (is ∙ ap (numbered now) here ∙ stays ∙ ap (numbered all) (sym here)),
       )
 
 -- the number of a name that was not there
@@ -92,16 +83,14 @@ pub number_of_new : (known : List (List ℕ)) (name : List ℕ) → list_any (by
     → number_of (known ++ name ∷ []) name ≡ Some (length known)
 number_of_new known name new =
     let whole = known ++ name ∷ [] in
-    let has : Has whole name = subst (λ l. Has l name) (with_name-new known name new) (has_own known name) in
-    let n = position_or_len (bytes_eq name) whole in
-    let some : number_of whole name ≡ Some n = cond-true (ltb n (length whole)) (Some n) None (lt-ltb n (length whole) (index_of whole name has)) in
-    let here = number_name whole name n some in
-    ⊎_elim
-    (λ (lt : n < length known).
-    let same : name ≡ get_or known n [] = sym here.1 ∙ get_or_append_left known (name ∷ []) [] n lt in
-    absurd (true≢false (sym (list_any_at (bytes_eq name) known n [] lt ((bytes_decides name (get_or known n [])).1 same)) ∙ new)))
-    (λ (past : length known ≤ n). some ∙ ap Some (omega (arith, past, here.0, length-append known (name ∷ []))))
-    (cases_lt n (length known))
+    let at = position_or_len_is (bytes_eq name) whole (length known) [] (omega (arith, length-append known (name ∷ [])))
+    (λ k lt. ap (bytes_eq name) (get_or_append_left known (name ∷ []) [] k lt) ∙ not_at k lt)
+    (λ inside. ap (bytes_eq name) (get_or_at known name [] [] (length known) refl) ∙ itself name) in
+    ap (λ i. cond (ltb i (length whole)) (Some i) None) at
+    ∙ cond-true (ltb (length known) (length whole)) (Some (length known)) None (lt-ltb _ _ (omega (arith, length-append known (name ∷ []))))
+  where
+    not_at : (k : ℕ) → k < length known → bytes_eq name (get_or known k []) ≡ false
+    not_at k lt = grind (arith, list_any_at (bytes_eq name) known k [] lt, cases_Bool, new)
 
 -- a name that has a number is not taken again
 pub numbered_known : (names : List (List ℕ)) (name : List ℕ) (n : ℕ) → number_of names name ≡ Some n → names ≡ with_name names name

@@ -1,13 +1,13 @@
 -- What is read with the numbers of its names.
-use Rattle.std.proofs.Common.{◌≡◌, ℕ, ◌+◌, ◌<◌, get_or, set, Bool, true, false, List, [], ◌∷◌, ◌++◌, length, map, take, drop, filter, All}
+use Rattle.std.proofs.Common.{◌≡◌, ℕ, ◌+◌, Bool, true, false, List, [], ◌∷◌, ◌++◌, length, map, take, drop, filter, All}
 use Rattle.std.proofs.Common.{Option, Some, None, MatchOption, Result, Ok, Err, refl, sym, ap, subst, ◌∙◌, if◌then◌else◌, append-nil}
-use Rattle.std.proofs.Common.{append_assoc, slice_get, unwrap_or, option_map, arith}
+use Rattle.std.proofs.Common.{append_assoc, slice_get, unwrap_or, arith}
 use Rattle.std.specs.Prelude.{◌||◌}
 use Rattle.std.specs.List.{filter_map}
 use Rattle.std.specs.Result.{result_ok, result_err, result_map_both}
 use Rattle.std.proofs.Math.Seq.{take-append_seam}
 use Rattle.std.proofs.lemmas.Grind.{common_steps, flat_map-append}
-use Rattle.std.proofs.lemmas.List.{length-map, map-append, map-set}
+use Rattle.std.proofs.lemmas.List.{length-map, map-append}
 use Rattle.std.proofs.lemmas.List.Sums.{fold-append}
 use Rattle.attr_glob.specs.Patterns.{Reading}
 use Rattle.attr_glob.specs.declared.search.pattern.Mapping.{Mapping}
@@ -16,7 +16,7 @@ use Rattle.attr_text.specs.declared.assignment.Assignment.{Assignment}
 use Rattle.attr_text.specs.declared.state.State.{State}
 use Rattle.attr_lists.specs.LineResults.{LineResult, Target, pattern, macro, macro_name, negative_pattern, results_of}
 use Rattle.attr_lists.specs.ListViews.{Entry, entry_view, entries_view}
-use Rattle.attr_lists.specs.KeptLists.{tracked, unnumbered, reason_of, unless_refused, items_read, entry_for, line_read, kept_lines, lines_left_out}
+use Rattle.attr_lists.specs.KeptLists.{tracked, reason_of, unless_refused, items_read, entry_for, line_read, kept_lines, lines_left_out}
 use Rattle.attr_lists.specs.KeptLists.{kept_list, dropped_lines, defines_no_macro, kept_list_where, macros_valid, IsReadAs}
 use Rattle.attr_lists.specs.Numbers.{AppendsNames, id_of, names_of, names_in, no_number, number_of, numbered, numbered_item}
 use Rattle.attr_lists.specs.Numbers.{numbered_lines, with_name, with_names}
@@ -30,7 +30,7 @@ use Rattle.attr_lists.specs.inner.NameSteps.{IsItemNumber}
 use Rattle.attr_lists.specs.shared.Reading.{IsReadWith, ReadsNumbered}
 use Rattle.attr_lists.proofs.KeptLaws.{kept_macros_valid}
 use Rattle.attr_lists.proofs.KeptLemmas.{read_after, read-more}
-use Rattle.attr_lists.proofs.ListLemmas.{front, front-more, get_or-map, refill_whole}
+use Rattle.attr_lists.proofs.ListLemmas.{refill_whole}
 use Rattle.attr_lists.proofs.NamedDefinitions.{Has, named_at}
 use Rattle.attr_lists.proofs.NameLemmas.{extends_again, with_names-extends}
 use Rattle.attr_lists.proofs.NameTableLaws.{all_of_map, has_all, has_own, id_stays, items_stay, line_stays}
@@ -298,62 +298,37 @@ module _ (allow : Bool) (bytes : List ℕ) (left others : List LineResult) (x : 
 
 -- ---- lines without their numbers
 
-forgotten_items : (names : List (List ℕ)) (items : List TrackedAssignment) → map (λ item. tracked item.inner) (numbered_items names items)
-    ≡ map (λ item. tracked item.inner) items
+forgotten_items : (names : List (List ℕ)) (assignments : List Assignment)
+    → map (λ item. tracked item.inner) (numbered_items names (map tracked assignments)) ≡ map tracked assignments
 forgotten_items names [] = refl
-forgotten_items names (item ∷ items) = ap (λ l. tracked item.inner ∷ l) (forgotten_items names items)
+forgotten_items names (one ∷ others) = ap (λ l. tracked one ∷ l) (forgotten_items names others)
 
-forgotten_numbered : (names : List (List ℕ)) (line : Entry) → forgotten (numbered names line) ≡ forgotten line
-forgotten_numbered names line =
-    let macro = forgotten_macro line.macro in
-    let items = forgotten_items names line.items in
-    λ j. record { pattern = line.pattern; macro = macro j; items = items j; line = line.line }
-  where
-    forgotten_macro : (m : Option AttributeId)
-        → option_map (λ id. unnumbered) (option_map (λ _. id_of names line.pattern.text) m) ≡ option_map (λ id. unnumbered) m
-    forgotten_macro None = refl
-    forgotten_macro (Some id) = refl
+forgotten_entry : (names : List (List ℕ)) (target : Target) (line : ℕ) (assignments : List Assignment)
+    → forgotten (numbered names (entry_for target line (map tracked assignments))) ≡ entry_for target line (map tracked assignments)
+forgotten_entry names (pattern p) line assignments = ap (λ l. entry_for (pattern p) line l) (forgotten_items names assignments)
+forgotten_entry names (macro name) line assignments = ap (λ l. entry_for (macro name) line l) (forgotten_items names assignments)
 
--- what was not numbered is the same without numbers
-forgotten_tracked : (assignments : List Assignment) → map (λ item. tracked item.inner) (map tracked assignments) ≡ map tracked assignments
-forgotten_tracked [] = refl
-forgotten_tracked (one ∷ others) = ap (λ l. tracked one ∷ l) (forgotten_tracked others)
-
-forgotten_entry : (target : Target) (line : ℕ) (assignments : List Assignment) → forgotten (entry_for target line (map tracked assignments))
-    ≡ entry_for target line (map tracked assignments)
-forgotten_entry (pattern p) line assignments = ap (λ l. entry_for (pattern p) line l) (forgotten_tracked assignments)
-forgotten_entry (macro name) line assignments = ap (λ l. entry_for (macro name) line l) (forgotten_tracked assignments)
-
-forgotten_given : (target : Target) (line : ℕ) (refusals : List Refusal) (assignments : List Assignment) (entry : Entry)
+forgotten_given : (names : List (List ℕ)) (target : Target) (line : ℕ) (refusals : List Refusal) (assignments : List Assignment) (entry : Entry)
     → result_map_both (entry_for target line) (dropped_for line) (unless_refused refusals (map tracked assignments)) ≡ Ok entry
-    → forgotten entry ≡ entry
-forgotten_given target line [] assignments entry is =
+    → forgotten (numbered names entry) ≡ entry
+forgotten_given names target line [] assignments entry is =
     let same : entry_for target line (map tracked assignments) ≡ entry = cc (is) in
-    subst (λ e. forgotten e ≡ e) same (forgotten_entry target line assignments)
-forgotten_given target line (refusal ∷ refusals) assignments entry is = absurd (cc (is))
+    subst (λ e. forgotten (numbered names e) ≡ e) same (forgotten_entry names target line assignments)
+forgotten_given names target line (refusal ∷ refusals) assignments entry is = absurd (cc (is))
 
-forgotten_read : (x : LineResult) (entry : Entry) → line_read x ≡ Ok entry → forgotten entry ≡ entry
-forgotten_read (Ok given) entry is =
-    forgotten_given given.target given.line (filter_map result_err given.items) (filter_map result_ok given.items) entry is
-forgotten_read (Err (macro_name line name)) entry is = absurd (cc (is))
-forgotten_read (Err (negative_pattern line text)) entry is = absurd (cc (is))
+forgotten_read : (names : List (List ℕ)) (x : LineResult) (entry : Entry) → line_read x ≡ Ok entry → forgotten (numbered names entry) ≡ entry
+forgotten_read names (Ok given) entry is =
+    forgotten_given names given.target given.line (filter_map result_err given.items) (filter_map result_ok given.items) entry is
+forgotten_read names (Err (macro_name line name)) entry is = absurd (cc (is))
+forgotten_read names (Err (negative_pattern line text)) entry is = absurd (cc (is))
 
 forgotten_lines : (names : List (List ℕ)) (lines : List LineResult) → map forgotten (numbered_lines names (kept_lines lines)) ≡ kept_lines lines
 forgotten_lines names [] = refl
-forgotten_lines names (x ∷ lines) = grind (arith, forgotten_lines names lines, forgotten_numbered names, forgotten_read x)
+forgotten_lines names (x ∷ lines) = grind (arith, forgotten_lines names lines, forgotten_read names x)
 
 -- the lines of a buffer without their numbers
 pub forgotten_kept : (names : List (List ℕ)) (bytes : List ℕ) → map forgotten (numbered_lines names (kept_list bytes)) ≡ kept_list bytes
 forgotten_kept names bytes = forgotten_lines names (results_of bytes)
-
--- one more line loses its numbers
-pub forgotten_step : (start lines : List (Mapping Value)) (i : ℕ) (d now : Mapping Value) → i < length start
-    → entries_view lines ≡ front forgotten i (entries_view start) → entry_view now ≡ forgotten (entry_view (get_or lines i d))
-    → entries_view (set lines i now) ≡ front forgotten (i + 1) (entries_view start)
-forgotten_step start lines i d now lt e is =
-    map-set entry_view lines i now
-    ∙ front-more forgotten i (entries_view start) (entries_view lines) (entry_view now) (entry_view d) (omega (arith, length-map start entry_view))
-    (is ∙ ap forgotten (sym (get_or-map entry_view lines i d))) e
 
 -- what is read without the numbers is what is kept of the buffer
 pub forgotten_whole : (bytes : List ℕ) (start names : List (List ℕ)) (old new : List (Mapping Value)) (count : ℕ) (dropped : List Dropped)

@@ -7,12 +7,12 @@ use Rattle.std.proofs.lemmas.Bool.{cases_lt}
 use Rattle.std.proofs.lemmas.List.{length-take, length-drop, get_or-take, get_or-drop, take-append-drop, drop-drop}
 use Rattle.std.proofs.lemmas.List.Elements.{All-head, All-tail, filter-append}
 
-keep_all : {X : Type 0} (p : X → Bool) (xs : List X) → All (λ x. p x ≡ true) xs → filter p xs ≡ xs
+pub keep_all : {X : Type 0} (p : X → Bool) (xs : List X) → All (λ x. p x ≡ true) xs → filter p xs ≡ xs
 keep_all p [] h = refl
 keep_all p (x ∷ xs) h =
     rw (All-head (λ x. p x ≡ true) x xs h) (ap (λ l. x ∷ l) (keep_all p xs (All-tail (λ x. p x ≡ true) x xs h)))
 
-keep_none : {X : Type 0} (p : X → Bool) (xs : List X) → All (λ x. p x ≡ false) xs → filter p xs ≡ []
+pub keep_none : {X : Type 0} (p : X → Bool) (xs : List X) → All (λ x. p x ≡ false) xs → filter p xs ≡ []
 keep_none p [] h = refl
 keep_none p (x ∷ xs) h = rw (All-head (λ x. p x ≡ false) x xs h) (keep_none p xs (All-tail (λ x. p x ≡ false) x xs h))
 

@@ -9,14 +9,6 @@ use Rattle.attr_lists.specs.Collections.{MacroDefinition, NumberedBody, Register
 use Rattle.attr_lists.specs.Numbers.{names_in, with_names, number_of, numbered_lines, AreNamed}
 use Rattle.attr_lists.specs.declared.types.TrackedAssignment.{TrackedAssignment}
 
--- the line defines the macro with this number
-abbrev pub is_definition : ℕ → Entry → Bool
-is_definition number entry = unwrap_or (option_map (λ id. id.0 == number) entry.macro) false
-
--- the bodies that the lines define for this number, line by line
-abbrev pub bodies_defined : ℕ → List Entry → List (List TrackedAssignment)
-bodies_defined number entries = map (λ entry. entry.items) (filter (is_definition number) entries)
-
 -- the line defines the macro of this name
 abbrev pub defines_name : List ℕ → Entry → Bool
 defines_name name entry = is_some entry.macro && bytes_eq name entry.pattern.text

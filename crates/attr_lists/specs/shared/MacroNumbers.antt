@@ -4,7 +4,7 @@ use Rattle.std.specs.List.{list_all}
 use Rattle.std.specs.BTreeSet.{BTreeSet, contains}
 use Rattle.std.specs.Ordering.{nat_cmp}
 use Rattle.attr_lists.specs.Collections.{Collection}
-use Rattle.attr_lists.specs.Definitions.{bodies_defined, definitions_of}
+use Rattle.attr_lists.specs.Definitions.{definitions_of}
 use Rattle.attr_lists.specs.KeptLists.{defines_no_macro}
 use Rattle.attr_lists.specs.ListViews.{Entry}
 use Rattle.attr_lists.specs.declared.name_table.entry.NameEntry.{NameEntry}
@@ -17,10 +17,6 @@ ListsMacros numbers known = (number : ℕ) → contains nat_cmp numbers number �
 -- some line defines a macro
 abbrev pub defines_macros : List Entry → Bool
 defines_macros entries = not (list_all defines_no_macro entries)
-
--- the lines define no macro of another number
-abbrev pub ListsDefined : BTreeSet ℕ → List Entry → Type 0
-ListsDefined numbers lines = (number : ℕ) → contains nat_cmp numbers number ≡ false → bodies_defined number lines ≡ []
 
 -- what was among the numbers is among them still
 abbrev pub KeepsNumbers : BTreeSet ℕ → BTreeSet ℕ → Type 0

@@ -63,6 +63,7 @@ impl NameSet {
     pub(crate) fn len(&self) -> usize
         ensures count { result ≡ length self.now }
         ensures valid { AreValid self.now }
+        ensures distinct { IsDistinct bytes_eq self.now }
     {
         self.texts.len()
     }

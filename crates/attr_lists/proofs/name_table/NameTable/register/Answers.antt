@@ -1,14 +1,14 @@
-use Rattle.std.proofs.Common.{◌≡◌, ◌∙◌, ℕ, [], ◌∷◌, ◌++◌, ap, arith, false, length, map, refl, subst, sym}
+use Rattle.std.proofs.Common.{◌≡◌, ◌∙◌, ℕ, [], ◌∷◌, ◌++◌, ap, arith, false, length, map, subst, sym}
 use Rattle.std.specs.Vec.{with_items}
 use Rattle.std.proofs.lemmas.List.{map-append, with_items_is}
-use Rattle.attr_lists.specs.Definitions.{is_registered, macros_defined, of_other_lists, with_list, IsSoundCollection}
+use Rattle.attr_lists.specs.Definitions.{is_registered, macros_defined, with_list, IsSoundCollection}
 use Rattle.attr_lists.specs.ListViews.{entries_view}
 use Rattle.attr_lists.specs.Numbers.{names_in, numbered_lines, with_names}
 use Rattle.attr_lists.specs.declared.name_table.NameTable.TheInside.{Inside}
 use Rattle.attr_lists.specs.declared.name_table.registered.ListMacros.{ListMacros}
-use Rattle.attr_lists.specs.inner.EntryViews.{all_definitions, definitions_at, AreEntries}
-use Rattle.attr_lists.specs.inner.NameTableView.{name_table_view, IsPartlyRegistered}
-use Rattle.attr_lists.specs.inner.Registered.{numbered_body, registered_view, registered_views, IsAbove, ListsBodies}
+use Rattle.attr_lists.specs.inner.EntryViews.{definitions_at, AreEntries}
+use Rattle.attr_lists.specs.inner.NameTableView.{name_table_view}
+use Rattle.attr_lists.specs.inner.Registered.{numbered_body, registered_view, registered_views}
 use Rattle.attr_lists.proofs.FreshNames.{known_lines, lines_held, stay_registered}
 use Rattle.attr_lists.proofs.NameTableSteps.{above_fresh, added_whole, taken_back}
 use Rattle.attr_lists.proofs.name_table.NameTable.register.Goals.{After-push_reserved}
@@ -48,24 +48,25 @@ added c =
 pub invariant_of-self-2 : goal.invariant_of-self-2
 invariant_of-self-2 c =
     let p = c.self.inside in
+    let macros = macros_are c in
     let kept : length c.define_list.new.entries ≡ p.entries.len =
     omega (arith, c.define_list.auto.entries, ap length c.deref_mut.ensures.value, p.entries.ok.0) in
     let items = with_items_is p.entries c.define_list.new.entries kept in
     let before : (n : ℕ) → definitions_at c.deref_mut.result.now n ≡ definitions_at p.entries.items n =
     λ n. ap (λ l. definitions_at l n) c.deref_mut.ensures.value in
-    added_whole p (after c) c.in-Some.list_id (entries_view c.args.mappings.now) (map numbered_body c.in_ok-macros.macros.items) c.self.invariant
-    (subst (λ ls. IsAbove c.in-Some.list_id (registered_views ls)) c.deref.ensures.value c.in-Some.ensures) (added c) (macros_are c).1
-    c.self.invariant.sound.valid
-    (omega (arith, ap length items, kept, p.entries.ok.0, c.self.invariant.counted))
-    (subst AreEntries (sym items) (c.define_list.ensures.entries (subst AreEntries (sym c.deref_mut.ensures.value) c.self.invariant.entries)))
-    (λ n lt. grind arith)
-    c.insert_macros.ensures.kept
-    (subst (λ l. ListsBodies c.insert_macros.new.macros (map numbered_body l)) c.deref-2.ensures.value c.in_ok-insert_macros.ensures.listed)
+    rw (added c)
+    (added_whole p.entries.items (after c).entries.items p.macros c.insert_macros.new.macros (name_table_view p) c.in-Some.list_id
+    (entries_view c.args.mappings.now) c.self.invariant (rw c.deref.ensures.value at c.in-Some.ensures)
+    (rw macros.0 c.self.invariant.sound.valid)
+    (omega (arith, ap length items, kept, p.entries.ok.0, c.self.invariant.counted, ap length macros.0))
+    (rw items (c.define_list.ensures.entries (subst AreEntries (sym c.deref_mut.ensures.value) c.self.invariant.entries)))
+    (λ n lt. grind (arith, macros.1))
+    c.insert_macros.ensures.kept (rw (← macros.1, ← c.deref-2.ensures.value) c.in_ok-insert_macros.ensures.listed))
 
 pub returns-clause-registered : goal.returns-clause-registered
 returns-clause-registered c = record {
   fresh = subst (λ known. is_registered known c.in-Some.list_id ≡ false) c.self.view_is
-      (above_fresh c.self.inside c.deref.result.now c.in-Some.list_id c.deref.ensures.value c.in-Some.ensures);
+      (above_fresh c.in-Some.list_id (name_table_view c.self.inside) (rw c.deref.ensures.value at c.in-Some.ensures));
   added = added c ∙ ap (with_list c.in-Some.list_id (entries_view c.args.mappings.now)) c.self.view_is;
 }
 
@@ -86,30 +87,15 @@ returns-clause-sound c = (invariant_of-self-2 c).sound
 pub invariant_of-self-then-is_err : goal.invariant_of-self-then-is_err
 invariant_of-self-then-is_err c =
     let p = c.self.inside in
-    let id = c.in-Some.list_id in
     let seen = c.deref_mut.ensures.value in
+    let again = c.deref_mut-then-is_err.ensures.value in
     let kept : length c.define_list.new.entries ≡ p.entries.len = omega (arith, c.define_list.auto.entries, ap length seen, p.entries.ok.0) in
     let items = with_items_is p.entries c.define_list.new.entries kept in
-    let mid : Inside = record {
-      names = p.names;
-      entries = with_items p.entries c.define_list.new.entries;
-      lists = c.reserve.new.self;
-      macros = c.insert_macros.new.macros;
-    } in
-    let part : IsPartlyRegistered id p mid = record {
-      names = refl;
-      counted = omega (arith, ap length items, kept, p.entries.ok.0);
-      entries = subst AreEntries (sym items) (c.define_list.ensures.entries (subst AreEntries (sym seen) c.self.invariant.entries));
-      definitions = rw (items, ← seen) c.define_list.ensures.others;
-      lists = c.reserve.ensures.items;
-      macros = c.insert_macros.ensures.kept;
-    } in
-    let again = c.deref_mut-then-is_err.ensures.value in
-    let kept' : length c.take_back.new.entries ≡ mid.entries.len =
-    omega (arith, c.take_back.auto.entries, ap length again, mid.entries.ok.0) in
-    let left = with_items_is mid.entries c.take_back.new.entries kept' in (
-    taken_back p mid _ id part c.self.invariant
-    (subst (λ ls. IsAbove id (registered_views ls)) c.deref.ensures.value c.in-Some.ensures) refl
-    (ap all_definitions left ∙ c.take_back.ensures.definitions ∙ ap (λ l. map (of_other_lists id) (all_definitions l)) again)
-    (λ are. subst AreEntries (sym left) (c.take_back.ensures.entries (subst AreEntries (sym again) are))) refl refl
-    ).1
+    let kept' : length c.take_back.new.entries ≡ p.entries.len = omega (arith, c.take_back.auto.entries, ap length again, ap length items, kept) in
+    rw (c.reserve.ensures.items, with_items_is (with_items p.entries c.define_list.new.entries) c.take_back.new.entries kept')
+    (taken_back p.entries.items c.deref_mut-then-is_err.result.now c.take_back.new.entries p.macros c.insert_macros.new.macros (name_table_view p)
+    c.in-Some.list_id c.self.invariant (rw c.deref.ensures.value at c.in-Some.ensures)
+    (omega (arith, ap length again, ap length items, kept, p.entries.ok.0)) (rw (again, items, ← seen) c.define_list.ensures.others)
+    c.take_back.ensures.definitions
+    (c.take_back.ensures.entries (rw (again, items) (c.define_list.ensures.entries (subst AreEntries (sym seen) c.self.invariant.entries))))
+    c.insert_macros.ensures.kept)

@@ -1,6 +1,6 @@
 use Rattle.std.proofs.Common.{arith, ◌∙◌, ap, sym, Some}
 use Rattle.attr_lists.specs.Numbers.{number_of}
-use Rattle.attr_lists.proofs.NameSetLemmas.{absent}
+use Rattle.attr_lists.proofs.NamedDefinitions.{absent}
 use Rattle.attr_lists.proofs.NumberLemmas.{number_of_new, numbered_known}
 use Rattle.attr_lists.proofs.name_table.name_set.NameSet.number.Goals as goal
 use Rattle.attr_lists.proofs.name_table.name_set.NameSet.number.Goals.{in-Some-number_of, in-None+in_ok-number-in-None}
