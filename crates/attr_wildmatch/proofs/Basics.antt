@@ -51,6 +51,11 @@ second_or b (Some p) = p.1
 pub pair_parts : {A B : Type 0} (a c : A) (b d : B) → ◌≡◌ {A = Option (A × B)} (Some (a, b)) (Some (c, d)) → (a ≡ c) × (b ≡ d)
 pair_parts a c b d h = (ap (first_or a) h, ap (second_or b) h)
 
+-- what holds of a pair holds of an equal one
+pub same_pair : {A B : Type 0} (P : A → B → Type 0) (p : A × B) (a : A) (b : B) → ◌≡◌ {A = Option (A × B)} (Some p) (Some (a, b)) →
+    P p.0 p.1 → P a b
+same_pair P p a b e h = subst (λ q. P (first_or p.0 q) (second_or p.1 q)) e h
+
 -- the cases of an option
 pub by_option : {A P : Type 0} (o : Option A) → (o ≡ None → P) → ((x : A) → o ≡ Some x → P) → P
 by_option None n s = n refl

@@ -1,12 +1,12 @@
 -- The test of matching says what the relation says.
-use Rattle.std.proofs.Common.{arith, ◌≡◌, ℕ, Bool, true, List, [], ◌∷◌, Option, Some, ap, ◌∙◌}
+use Rattle.std.proofs.Common.{arith, ◌≡◌, ℕ, Bool, true, List, [], ◌∷◌, ap, ◌∙◌}
 use Rattle.std.proofs.lemmas.Bool.Decides.{nat_tests}
 use Rattle.std.proofs.lemmas.Bool.{or_cases, or_left, or_right}
 use Rattle.attr_wildmatch.specs.declared.case.Case.{Case}
 use Rattle.attr_wildmatch.specs.Tokens.{Token, lit, one, set, star, dirs, rest, tokens}
 use Rattle.attr_wildmatch.specs.Matching.{Takes, Match, TextMatches}
 use Rattle.attr_wildmatch.specs.Deciding.{takes_byte, byte_then, slash_then, token_then, is_nil, matches, some_match, text_matches}
-use Rattle.attr_wildmatch.proofs.Basics.{each_of_all, all_of_each}
+use Rattle.attr_wildmatch.proofs.Basics.{by_option, each_of_all, all_of_each}
 use Rattle.attr_wildmatch.proofs.SpellTokens.{spelled, read_back}
 use Rattle.attr_wildmatch.proofs.Splits.{Split, byte_split, star_split, star_joined, rest_split, rest_joined, slash_split}
 use Rattle.attr_wildmatch.proofs.Splits.{slash_joined, single_takes, single_taken}
@@ -34,12 +34,10 @@ test_of_match case [] v h = ap is_nil h
 test_of_match case (t ∷ ts) v h =
     grind (arith, nat_tests, single_taken, star_joined, each_of_all, or_left, or_right, slash_joined, rest_joined, test_of_match case ts)
 
-some_split : (case : Case) (text value : List ℕ) (o : Option (List Token)) → some_match case o value ≡ true → (ts : List Token) × (o ≡ Some ts) ×
-    Match case ts value
-some_split case text value o h = grind (arith, nat_tests, match_of_test)
-
 pub text_match_of_test : (case : Case) (text value : List ℕ) → text_matches case text value ≡ true → TextMatches case text value
-text_match_of_test case text value h = let s = some_split case text value (tokens text) h in (s.0, spelled text s.0 s.1, s.2)
+text_match_of_test case text value h = by_option (tokens text)
+    (λ n. let e = rw n at h in cc)
+    (λ ts k. (ts, spelled text ts k, match_of_test case ts value (rw k at h)))
 
 pub test_of_text_match : (case : Case) (text value : List ℕ) → TextMatches case text value → text_matches case text value ≡ true
 test_of_text_match case text value m = ap (λ o. some_match case o value) (read_back text m.0 m.1) ∙ test_of_match case m.0 value m.2

@@ -1,33 +1,40 @@
 -- Directories that begin with a byte, and where tokens that begin with it may match.
 use Rattle.std.proofs.lemmas.Grind.{common_steps}
 use Rattle.std.proofs.Common.{◌≡◌, ◌≤◌, ◌<◌, ◌+◌, ◌-◌, ℕ, zero, suc, Bool, slice_index, true, false, ◌==◌, ◌&&◌, ◌||◌, List, [], ◌∷◌, length}
-use Rattle.std.proofs.Common.{drop, take, None, refl, sym, subst, ap, ◌∙◌, arith}
+use Rattle.std.proofs.Common.{drop, take, None, refl, sym, subst, ◌∙◌, arith}
 use Rattle.std.proofs.lemmas.Bool.Decides.{nat_tests}
+use Rattle.std.proofs.lemmas.Bool.{eqb-true}
 use Rattle.std.proofs.lemmas.List.{take_all, length-drop, drop-drop}
 use Rattle.memchr.specs.Find.{is_byte, Passes, Nowhere, NoneBefore}
 use Rattle.attr_wildmatch.specs.declared.case.Case.{Case}
-use Rattle.attr_wildmatch.specs.declared.case.Case.TheVariants.{Sensitive}
 use Rattle.attr_wildmatch.specs.Brackets.{begins}
 use Rattle.attr_wildmatch.specs.Bytes.{slash}
-use Rattle.attr_wildmatch.specs.Tokens.{Token, lit}
+use Rattle.attr_wildmatch.specs.Tokens.{Token}
 use Rattle.attr_wildmatch.specs.Deciding.{matches, slash_then}
 use Rattle.attr_wildmatch.specs.inner.FirstBytes.{BeginWith, BeginWithPair, begins_with_pair, from_first}
 use Rattle.attr_wildmatch.specs.inner.Stretches.{first_left, front_left}
 use Rattle.attr_wildmatch.proofs.Basics.{by_test}
 
-passed : (b x y : Bool) → (b && x) ≡ false → ((b && x) || y) ≡ y
-passed b x y h = ap (λ e. e || y) h
+-- what a directory star goes on to, from the slash before the next directory
+abbrev pub goes_on : (List ℕ → Bool) → List ℕ → Bool
+goes_on f [] = false
+goes_on f (s ∷ next) = f next || slash_then f next
 
-pub next_start : (c : ℕ) (ts : List Token) (v next : List ℕ) (s : ℕ) → from_first (begins_with_pair slash c) v ≡ s ∷ next →
-    slash_then (matches Sensitive (lit c ∷ ts)) v
-    ≡ (matches Sensitive (lit c ∷ ts) next || slash_then (matches Sensitive (lit c ∷ ts)) next)
-next_start c ts [] next s h = absurd cc
-next_start c ts (b ∷ bs) next s h = grind (arith, nat_tests, next_start c ts bs next s)
+-- that slash is found by a test that each slash passes where f takes what follows
+over_others_below : (f test : List ℕ → Bool) → ((b : ℕ) (bs : List ℕ) → test (b ∷ bs) ≡ true → b ≡ slash) →
+    ((b : ℕ) (bs : List ℕ) → test (b ∷ bs) ≡ false → (b == slash && f bs) ≡ false) →
+    (v : List ℕ) → slash_then f v ≡ goes_on f (from_first test v)
+over_others_below f test at needed [] = refl
+over_others_below f test at needed (b ∷ bs) = grind (arith, nat_tests, at b bs, needed b bs, over_others_below f test at needed bs)
 
-pub no_next_start : (c : ℕ) (ts : List Token) (v : List ℕ) → from_first (begins_with_pair slash c) v ≡ [] →
-    slash_then (matches Sensitive (lit c ∷ ts)) v ≡ false
-no_next_start c ts [] h = refl
-no_next_start c ts (b ∷ bs) h = grind (arith, nat_tests, no_next_start c ts bs)
+pub on_slash : (f : List ℕ → Bool) (v : List ℕ) → slash_then f v ≡ goes_on f (from_first (begins slash) v)
+on_slash f v = over_others_below f (begins slash) (λ b bs h. eqb-true b slash h) (λ b bs h. grind (arith, nat_tests)) v
+
+pub on_start : (case : Case) (c : ℕ) (ts : List Token) (v : List ℕ) → BeginWith case c ts →
+    slash_then (matches case ts) v ≡ goes_on (matches case ts) (from_first (begins_with_pair slash c) v)
+on_start case c ts v h =
+    over_others_below (matches case ts) (begins_with_pair slash c) (λ b bs e. grind (arith, nat_tests))
+    (λ b bs e. rw (h.sensitive, h.tokens) (grind (arith, nat_tests))) v
 
 -- where the search finds nothing, it finds nothing further on
 none_later : (test : List ℕ → Bool) (k : ℕ) (v : List ℕ) → from_first test v ≡ [] → from_first test (drop k v) ≡ []
@@ -80,15 +87,6 @@ pub no_first_pair : (case : Case) (a c : ℕ) (ts : List Token) (v : List ℕ) �
     [] ≡ from_first (begins_with_pair a c) v → first_left case ts v ≡ None
 no_first_pair case a c ts v h e = from_first_pair case a c ts v [] h e ∙ rw (h.sensitive, h.tokens) refl
 
-pub found_start : (case : Case) (c : ℕ) (ts : List Token) (v next : List ℕ) (s : ℕ) → BeginWith case c ts →
-    from_first (begins_with_pair slash c) v ≡ s ∷ next →
-    slash_then (matches case ts) v ≡ (matches case ts next || slash_then (matches case ts) next)
-found_start case c ts v next s h e = rw (h.sensitive, h.tokens) (next_start c h.others v next s e)
-
-pub no_start : (case : Case) (c : ℕ) (ts : List Token) (v : List ℕ) → BeginWith case c ts → from_first (begins_with_pair slash c) v ≡ [] →
-    slash_then (matches case ts) v ≡ false
-no_start case c ts v h e = rw (h.sensitive, h.tokens) (no_next_start c h.others v e)
-
 pub no_bytes : (v : List ℕ) → length v ≡ 0 → v ≡ []
 no_bytes v l = grind (arith, common_steps, nat_tests)
 
@@ -122,13 +120,3 @@ absent_byte c v test e nowhere =
 pub from_first_shorter : (test : List ℕ → Bool) (v : List ℕ) → length (from_first test v) ≤ length v
 from_first_shorter test [] = omega arith
 from_first_shorter test (b ∷ bs) = grind (arith, nat_tests, from_first_shorter test bs)
-
--- what follows the first slash is the next directory
-pub found_slash : (f : List ℕ → Bool) (v next : List ℕ) (s : ℕ) → from_first (begins slash) v ≡ s ∷ next →
-    slash_then f v ≡ (f next || slash_then f next)
-found_slash f [] next s h = absurd cc
-found_slash f (b ∷ bs) next s h = grind (arith, nat_tests, found_slash f bs next s)
-
-pub no_slash : (f : List ℕ → Bool) (v : List ℕ) → from_first (begins slash) v ≡ [] → slash_then f v ≡ false
-no_slash f [] h = refl
-no_slash f (b ∷ bs) h = grind (arith, nat_tests, no_slash f bs)

@@ -1,6 +1,5 @@
 pub mod Basics
 pub mod ByteSetLemmas
-pub mod Names
 pub mod ClosingLemmas
 pub mod MembersLemmas
 pub mod TokenLemmas

@@ -7,7 +7,7 @@ use Rattle.std.proofs.lemmas.Bool.Decides.{nat_tests}
 use Rattle.std.proofs.lemmas.Nat.Bits.{bit_at_and, bit_at_ones, bit_at_set_same, bit_at_set_other, bit_at-lt, same_from_bits}
 use Rattle.std.specs.Int.{bit_at}
 use Rattle.attr_wildmatch.specs.declared.case.Case.{Case}
-use Rattle.attr_wildmatch.specs.Tokens.{Token, lit, one, set, star, dirs, rest}
+use Rattle.attr_wildmatch.specs.Tokens.{Token, lit}
 use Rattle.attr_wildmatch.specs.Matching.{Match, Takes, same_byte}
 use Rattle.attr_wildmatch.specs.Pairs.{begins_with_literals, has_pair, is_literal_pair, is_pair, kind, needs_pair}
 
@@ -34,15 +34,12 @@ among_to a b h = same_from_bits (bit_and a b) a (λ k.
     let lb = bit_at-lt b k in
     grind (arith, nat_tests, bit_at_and, h k))
 
-kind_below : (a b : ℕ) → kind a b < 64
-kind_below a b = omega arith
-
 -- all kinds are below 64
 pub pair_below : (k : ℕ) (text : List ℕ) → has_pair k text ≡ true → k < 64
 pair_below k [] h = cc
 pair_below k (a ∷ []) h = cc
 pair_below k (a ∷ b ∷ bytes) h = elim (or_cases (k == kind a b) (has_pair k (b ∷ bytes)) h) [
-  | inl here ↦ rw (eqb-true k (kind a b) here) (kind_below a b)
+  | inl here ↦ rw (eqb-true k (kind a b) here) (omega arith)
   | inr later ↦ pair_below k (b ∷ bytes) later
 ]
 
@@ -72,22 +69,13 @@ literal_taken case k first byte (lit second ∷ ts) bytes same here matched =
     let low = same_low case first byte same in
     let next = same_low case second taken.0 taken.2 in
     rw (matched.2, taken.1, low, next) here
-literal_taken case k first byte (one ∷ ts) bytes same here matched = cc
-literal_taken case k first byte (set negated ms ∷ ts) bytes same here matched = cc
-literal_taken case k first byte (star ∷ ts) bytes same here matched = cc
-literal_taken case k first byte (dirs ∷ ts) bytes same here matched = cc
-literal_taken case k first byte (rest ∷ ts) bytes same here matched = cc
-literal_taken case k first byte [] bytes same here matched = cc
+literal_taken case k first byte ts bytes same here matched = cc
 
 begun_taken : (case : Case) (k : ℕ) (t : Token) (ts : List Token) (part others : List ℕ) → Takes case t part → Match case ts others →
     begins_with_literals k (t ∷ ts) ≡ true → has_pair k (part ++ others) ≡ true
 begun_taken case k (lit first) ts part others taken matched here =
     rw taken.1 (or_left (is_pair k taken.0 others) (has_pair k others) (literal_taken case k first taken.0 ts others taken.2 here matched))
-begun_taken case k one ts part others taken matched here = cc
-begun_taken case k (set negated ms) ts part others taken matched here = cc
-begun_taken case k star ts part others taken matched here = cc
-begun_taken case k dirs ts part others taken matched here = cc
-begun_taken case k rest ts part others taken matched here = cc
+begun_taken case k t ts part others taken matched here = cc
 
 -- each pair that tokens need is in what they match
 pub pair_needed : (case : Case) (k : ℕ) (ts : List Token) (value : List ℕ) → Match case ts value → needs_pair k ts ≡ true →

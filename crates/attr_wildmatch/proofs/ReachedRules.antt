@@ -1,15 +1,16 @@
 -- The rules of a step hold for the indexes that are reached.
-use Rattle.std.proofs.Common.{◌≡◌, ◌<◌, ◌+◌, ℕ, zero, suc, Bool, true, false, cond, ◌⊎◌, inl, inr, List, [], ◌∷◌, length, slice_get}
-use Rattle.std.proofs.Common.{Option, Some, None, refl, sym, ap, subst, ◌∙◌, arith, add-one}
+use Rattle.std.proofs.Common.{◌≡◌, ◌<◌, ◌+◌, ℕ, suc, Bool, true, false, cond, ◌⊎◌, inl, inr, List, [], ◌∷◌, length, slice_get}
+use Rattle.std.proofs.Common.{Option, Some, None, sym, ap, subst, ◌∙◌, arith, add-one}
 use Rattle.std.proofs.lemmas.Bool.Decides.{nat_tests}
 use Rattle.std.proofs.lemmas.Bool.{and_from, and_parts, or_cases, or_right}
+use Rattle.std.proofs.lemmas.Option.{slice_get-get_or}
 use Rattle.attr_wildmatch.specs.declared.case.Case.{Case}
 use Rattle.attr_wildmatch.specs.Tokens.{Token, star, rest}
 use Rattle.attr_wildmatch.specs.inner.Bordered.{is_bordered}
 use Rattle.attr_wildmatch.specs.Deciding.{rest_then}
 use Rattle.attr_wildmatch.specs.inner.RowIndexes.{may_be_nothing, is_dirs, continues_with, ends_at, may_skip, is_dirs_at, stays_on, advances_on}
 use Rattle.attr_wildmatch.specs.inner.RowIndexes.{token_before, IsStep}
-use Rattle.attr_wildmatch.proofs.Basics.{by_test}
+use Rattle.attr_wildmatch.proofs.Basics.{by_option, by_test}
 use Rattle.attr_wildmatch.proofs.Reached.{back_then, fresh, alive}
 use Rattle.attr_wildmatch.proofs.ReachedSteps.{before_index, fresh-next, alive-directory, alive-plain, growing, no_directory_behind}
 
@@ -78,12 +79,7 @@ module _ (case : Case) (ts : List Token) (b : ℕ) (w : List ℕ) (bordered : is
       ((stays_on (token_before ts (k + 1)) b ≡ true) × (alive case ts w (k + 1) ≡ true)) ⊎
       (((advances_on case (slice_get ts k) b ≡ true) × (alive case ts w k ≡ true)) ⊎
       ((may_skip (slice_get ts k) ≡ true) × (fresh case ts (b ∷ w) k ≡ true)))
-  fresh_from_at None k e l h = absurd (missing ts k l e)
-    where
-      missing : (ts : List Token) (k : ℕ) → k < length ts → slice_get ts k ≡ None → ⊥
-      missing [] k l e = absurd (omega arith)
-      missing (t ∷ ts) zero l e = cc
-      missing (t ∷ ts) (suc k) l e = missing ts k (omega arith) e
+  fresh_from_at None k e l h = let f = slice_get-get_or ts k star l in cc
   fresh_from_at (Some t) k e l h = elim (back_from case t (before_index case ts k) b w (sym (fresh-next case ts (b ∷ w) k t e) ∙ h)) [
     | inl s ↦ inl (
       subst (λ x. stays_on x b ≡ true) (sym (token_before-next ts k t e)) s.0,
@@ -98,32 +94,15 @@ module _ (case : Case) (ts : List Token) (b : ℕ) (w : List ℕ) (bordered : is
   pub steps : IsStep case ts b (fresh case ts (b ∷ w)) (alive case ts (b ∷ w)) (alive case ts w)
   steps = grind (arith, nat_tests, growing, alive-directory, or_right, before_index, stay_at, advance_at, alive_from_at, fresh_from_at)
 
--- at the start nothing was alive before
-abbrev pub nothing : ℕ → Bool
-nothing k = false
-
 back_from_nil : (case : Case) (t : Token) (f : List ℕ → Bool) → back_then case t f [] ≡ true → (may_be_nothing t ≡ true) × (f [] ≡ true)
 back_from_nil case t f h = grind (arith, nat_tests, or_cases)
 
-pub starts : (case : Case) (ts : List Token) (b : ℕ) → IsStep case ts b (fresh case ts []) (alive case ts []) nothing
-starts case ts b = record {
-  growing = growing case ts [];
-  directory = λ k d a. cc;
-  stay = λ k h a. cc;
-  advance = λ k h a. cc;
-  alive_from = λ k l a. inl (by_test (is_dirs_at (slice_get ts k))
-      (λ d. sym (alive-directory case ts [] k d) ∙ a) (λ d. sym (alive-plain case ts [] k d) ∙ a));
-  fresh_from = λ k l h. inr (inr (from (slice_get ts k) k refl l h));
-}
-  where
-    from : (o : Option Token) (k : ℕ) → slice_get ts k ≡ o → k < length ts → fresh case ts [] (k + 1) ≡ true →
-        (may_skip (slice_get ts k) ≡ true) × (fresh case ts [] k ≡ true)
-    from None k e l h = absurd (missing ts k l e)
-      where
-        missing : (ts : List Token) (k : ℕ) → k < length ts → slice_get ts k ≡ None → ⊥
-        missing [] k l e = absurd (omega arith)
-        missing (t ∷ ts) zero l e = cc
-        missing (t ∷ ts) (suc k) l e = missing ts k (omega arith) e
-    from (Some t) k e l h =
-        let fact = back_from_nil case t (before_index case ts k) (sym (fresh-next case ts [] k t e) ∙ h) in
-        grind (arith, nat_tests, fact, before_index case ts k, fresh-next case ts)
+-- at the start only tokens that may take nothing lead on
+pub starts : (case : Case) (ts : List Token) (k : ℕ) → k < length ts → fresh case ts [] (k + 1) ≡ true →
+    (may_skip (slice_get ts k) ≡ true) × (fresh case ts [] k ≡ true)
+starts case ts k l h = by_option (slice_get ts k) (λ e. let f = slice_get-get_or ts k star l in cc) (λ t e.
+    let fact = back_from_nil case t (before_index case ts k) (sym (fresh-next case ts [] k t e) ∙ h) in
+    grind (arith, nat_tests, fact, before_index case ts k))
+
+pub alive-nil : (case : Case) (ts : List Token) (k : ℕ) → alive case ts [] k ≡ fresh case ts [] k
+alive-nil case ts k = by_test (is_dirs_at (slice_get ts k)) (alive-directory case ts [] k) (alive-plain case ts [] k)

@@ -1,16 +1,16 @@
 -- What one more byte makes of the indexes that are reached.
-use Rattle.std.proofs.Common.{arith, ◌≡◌, ◌+◌, ℕ, suc, Bool, true, false, cond, not, ◌&&◌, ◌==◌, List, [], ◌∷◌, ◌++◌, take, reverse, slice_get}
+use Rattle.std.proofs.Common.{arith, ◌≡◌, ◌+◌, ℕ, suc, Bool, true, false, cond, List, [], ◌∷◌, ◌++◌, take, reverse, slice_get}
 use Rattle.std.proofs.Common.{Option, Some, None, refl, ap, ◌∙◌, add-one}
 use Rattle.std.proofs.lemmas.Bool.Decides.{nat_tests}
 use Rattle.std.proofs.lemmas.List.{reverse-append}
 use Rattle.std.proofs.lemmas.Bool.{and_parts, or_left}
 use Rattle.attr_wildmatch.specs.declared.case.Case.{Case}
-use Rattle.attr_wildmatch.specs.Bytes.{slash}
 use Rattle.attr_wildmatch.specs.Tokens.{Token, dirs, token_ends_in_slash}
 use Rattle.attr_wildmatch.specs.inner.Bordered.{is_bordered}
-use Rattle.attr_wildmatch.specs.Deciding.{star_then, rest_then}
+use Rattle.attr_wildmatch.specs.Deciding.{rest_then}
 use Rattle.attr_wildmatch.specs.inner.RowIndexes.{may_be_nothing, may_skip, is_dirs_at, IsGrowing}
 use Rattle.attr_wildmatch.proofs.Basics.{by_test, true_false}
+use Rattle.attr_wildmatch.proofs.Splits.{rest_joined, star_joined}
 use Rattle.attr_wildmatch.proofs.Reached.{reached, back_then, fresh, alive}
 
 take-next : (ts : List Token) (k : ℕ) (t : Token) → slice_get ts k ≡ Some t → take (suc k) ts ≡ take k ts ++ t ∷ []
@@ -33,20 +33,14 @@ alive-directory case ts v k h = ap (λ x. cond x (rest_then (before_index case t
 pub alive-plain : (case : Case) (ts : List Token) (v : List ℕ) (k : ℕ) → is_dirs_at (slice_get ts k) ≡ false → alive case ts v k ≡ fresh case ts v k
 alive-plain case ts v k h = ap (λ x. cond x (rest_then (before_index case ts k) v) (fresh case ts v k)) h
 
-rest_now : (f : List ℕ → Bool) (v : List ℕ) → f v ≡ true → rest_then f v ≡ true
-rest_now f [] h = h
-rest_now f (b ∷ v) h = or_left (f (b ∷ v)) (rest_then f v) h
-
-star_now : (f : List ℕ → Bool) (v : List ℕ) → f v ≡ true → star_then f v ≡ true
-star_now f [] h = h
-star_now f (b ∷ v) h = or_left (f (b ∷ v)) (not (b == slash) && star_then f v) h
-
 skip_back : (case : Case) (t : Token) (f : List ℕ → Bool) (v : List ℕ) → may_be_nothing t ≡ true → f v ≡ true → back_then case t f v ≡ true
-skip_back case t f v h k = grind (arith, nat_tests, star_now, or_left, rest_now)
+skip_back case t f v h k = grind (arith, nat_tests, star_joined f [] v tt k, or_left, rest_joined f [] v k)
 
 pub growing : (case : Case) (ts : List Token) (v : List ℕ) → IsGrowing ts (fresh case ts v) (alive case ts v)
 growing case ts v = record {
-  living = λ k h. grind (arith, nat_tests, by_test, slice_get, alive-directory, rest_now, alive-plain);
+  living = λ k h.
+      let joined = rest_joined (before_index case ts k) [] v h in
+      by_test (is_dirs_at (slice_get ts k)) (λ d. alive-directory case ts v k d ∙ joined) (λ d. alive-plain case ts v k d ∙ h);
   skip = λ k s h. skipped (slice_get ts k) k refl s h;
 }
   where

@@ -1,23 +1,22 @@
 -- Rows of indexes: pushing an index, and indexes that are quiet.
 use Rattle.std.proofs.Common.{◌≡◌, ◌≤◌, ◌<◌, ℕ, zero, suc, ◌+◌, ◌-◌, Bool, true, false, cond, List, [], ◌∷◌, ◌++◌, length, slice_get, filter, ◌⊎◌}
-use Rattle.std.proofs.Common.{inl, inr, sym, ap, subst, ◌∙◌, append-nil, add-zero, add-one, arith}
+use Rattle.std.proofs.Common.{inl, inr, sym, ap, subst, append-nil, add-zero, zero-add, add-one, map-id, arith}
 use Rattle.std.specs.List.{range_with_len}
 use Rattle.std.proofs.lemmas.Bool.Decides.{nat_tests}
+use Rattle.std.proofs.lemmas.List.FromFn.{filter_of_map_range_with_len_more}
 use Rattle.attr_wildmatch.specs.declared.case.Case.{Case}
 use Rattle.attr_wildmatch.specs.Tokens.{Token}
 use Rattle.attr_wildmatch.specs.inner.RowIndexes.{is_dirs_at, stays_on, advances_on, token_before, indexes_below, IsRow, IsSettled, IsUnderway}
-use Rattle.attr_wildmatch.proofs.Basics.{by_test}
+use Rattle.attr_wildmatch.proofs.Basics.{by_test, true_false}
 
-filter_range-more : (test : ℕ → Bool) (n a : ℕ) →
-    filter test (range_with_len a (suc n)) ≡ filter test (range_with_len a n) ++ cond (test (a + n)) ((a + n) ∷ []) []
-filter_range-more test zero a = rw add-zero
-filter_range-more test (suc n) a = grind (arith, nat_tests, filter_range-more test n)
+indexes_below-more : (test : ℕ → Bool) (n : ℕ) → indexes_below test (n + 1) ≡ indexes_below test n ++ cond (test n) (n ∷ []) []
+indexes_below-more test n = simp map-id at (filter_of_map_range_with_len_more test (λ (k : ℕ). k) 0 n n (zero-add n))
 
 pub indexes_below-push : (test : ℕ → Bool) (n : ℕ) → test n ≡ true → indexes_below test (n + 1) ≡ indexes_below test n ++ n ∷ []
-indexes_below-push test n h = grind (arith, nat_tests, add-one, filter_range-more)
+indexes_below-push test n h = grind (arith, nat_tests, indexes_below-more)
 
 indexes_below-skip : (test : ℕ → Bool) (n : ℕ) → test n ≡ false → indexes_below test (n + 1) ≡ indexes_below test n
-indexes_below-skip test n h = grind (arith, nat_tests, add-one, filter_range-more, append-nil)
+indexes_below-skip test n h = grind (arith, nat_tests, indexes_below-more, append-nil)
 
 -- indexes that fail the test add nothing
 pub indexes_below-quiet : (test : ℕ → Bool) (n d : ℕ) → ((k : ℕ) → n ≤ k → k < n + d → test k ≡ false) →
@@ -30,18 +29,11 @@ pub indexes_below-up_to : (test : ℕ → Bool) (n m : ℕ) → n ≤ m → ((k 
     indexes_below test m ≡ indexes_below test n
 indexes_below-up_to test n m l h = grind (arith, nat_tests, indexes_below-quiet test n (m - n))
 
-pub length-filter-le : (test : ℕ → Bool) (xs : List ℕ) → length (filter test xs) ≤ length xs
-length-filter-le test [] = omega arith
-length-filter-le test (x ∷ xs) = let r = length-filter-le test xs in by_test (test x) (λ t. rw t (omega arith)) (λ f. rw f (omega arith))
-
 -- an index pushed after a row
 pub row-push : (ts : List Token) (fresh alive : ℕ → Bool) (row : List ℕ) (free index : ℕ) → IsRow ts fresh alive row free →
     free ≤ index → ((k : ℕ) → free ≤ k → k < index → alive k ≡ false) → alive index ≡ true →
     row ++ index ∷ [] ≡ indexes_below alive (index + 1)
 row-push ts fresh alive row free index r l q a = grind (arith, nat_tests, indexes_below-up_to, indexes_below-push)
-
-true_false : (v : Bool) → v ≡ true → v ≡ false → ⊥
-true_false v t f = let e : true ≡ false = sym t ∙ f in cc
 
 refuted : {case : Case} {ts : List Token} {b : ℕ} {fresh alive before : ℕ → Bool} {row : List ℕ} {p free : ℕ} →
     IsUnderway case ts b fresh alive before row p free → (k : ℕ) → free ≤ k + 1 → k + 1 ≤ p → k < length ts →
@@ -65,6 +57,9 @@ silent {case} {ts} {b} {fresh} {alive} {before} {row} {p} {free} u m k l h =
       | inr w ↦ let z : k < free = u.settled.directory k h w.1 w.0 in absurd (omega arith)
     ])) (λ f. f)
 
+below_or_at : (x y : ℕ) → x < y + 1 → (x < y) ⊎ (x ≡ y)
+below_or_at x y e = grind arith
+
 -- the same with the index p itself, where it doesn't stay
 pub silent_next : {case : Case} {ts : List Token} {b : ℕ} {fresh alive before : ℕ → Bool} {row : List ℕ} {p free : ℕ} →
     IsUnderway case ts b fresh alive before row p free → p ≤ length ts → before p ≡ true →
@@ -75,9 +70,6 @@ silent_next {case} {ts} {b} {fresh} {alive} {before} {row} {p} {free} u m o c d 
   | inr q ↦ subst (λ x. alive x ≡ false) (sym q) (here (omega arith))
 ]
   where
-    below_or_at : (x y : ℕ) → x < y + 1 → (x < y) ⊎ (x ≡ y)
-    below_or_at x y e = grind arith
-
     here : free ≤ p → alive p ≡ false
     here f = by_test (alive p) (λ t. absurd (elim (u.step.alive_from p m t) [
       | inl z ↦ true_false _ z (silent_fresh u p f (omega arith) m (λ e. grind (arith, nat_tests, by_test)))
@@ -112,9 +104,6 @@ settled-next {case} {ts} {b} {before} {p} {free} s c d e = record {
     | inr q ↦ let z : p + 1 < free = e (subst (λ x. advances_on case (slice_get ts x) b ≡ true) q t) in omega arith
   ];
 }
-  where
-    below_or_at : (x y : ℕ) → x < y + 1 → (x < y) ⊎ (x ≡ y)
-    below_or_at x y h = grind arith
 
 -- the first of the numbers from p on that pass
 pub record FirstOf (test : ℕ → Bool) (p d q : ℕ) (others : List ℕ) : Type 0 where

@@ -1,22 +1,22 @@
 -- A row moved over a value: what it holds after each byte, and how many indexes were visited.
 use Rattle.std.proofs.Common.{◌≡◌, ◌≤◌, ◌<◌, ◌+◌, ◌*◌, ◌-◌, ℕ, zero, suc, Bool, true, false, List, [], ◌∷◌, ◌++◌, length, take, reverse, slice_get}
-use Rattle.std.proofs.Common.{get_or, filter, sum_by, count_by, All, refl, sym, ap, subst, ◌∙◌, arith, add-zero, zero-add}
+use Rattle.std.proofs.Common.{get_or, filter, sum_by, count_by, All, refl, sym, ap, subst, ◌∙◌, arith, add-zero, add-one, zero-add, map-id}
 use Rattle.std.specs.List.{range_with_len}
 use Rattle.std.proofs.lemmas.Bool.Decides.{nat_tests}
 use Rattle.std.proofs.lemmas.List.{reverse-append, reverse-reverse, take_more, take_all}
-use Rattle.std.proofs.lemmas.List.Sums.{length-filter, sum_by-le-sum_by, sum_by-append}
-use Rattle.std.proofs.lemmas.List.FromFn.{length-range_with_len}
+use Rattle.std.proofs.lemmas.List.Sums.{count_by-le-length, length-filter, sum_by-le-sum_by, sum_by-append}
+use Rattle.std.proofs.lemmas.List.FromFn.{length-range_with_len, map-range_with_len_more}
+use Rattle.std.proofs.lemmas.Option.{slice_get_past}
 use Rattle.attr_wildmatch.specs.declared.case.Case.{Case}
 use Rattle.attr_wildmatch.specs.Tokens.{Token}
 use Rattle.attr_wildmatch.specs.inner.Bordered.{is_bordered}
 use Rattle.attr_wildmatch.specs.Matching.{Match, ReachedAtMost, pairs_passed}
 use Rattle.attr_wildmatch.specs.inner.RowIndexes.{indexes_below, IsStep, IsRow, IsUnderway}
 use Rattle.attr_wildmatch.proofs.Basics.{by_test, true_false, Each, all_of_each}
-use Rattle.attr_wildmatch.proofs.TokenLemmas.{slice_get-missing}
-use Rattle.attr_wildmatch.proofs.RowLemmas.{indexes_below-up_to, silent, empty_row, length-filter-le}
+use Rattle.attr_wildmatch.proofs.RowLemmas.{indexes_below-up_to, silent, empty_row}
 use Rattle.attr_wildmatch.proofs.Reached.{fresh, alive, match_of_reached, reached_of_match}
 use Rattle.attr_wildmatch.proofs.ReachedSteps.{growing, alive-plain}
-use Rattle.attr_wildmatch.proofs.ReachedRules.{steps, starts, nothing}
+use Rattle.attr_wildmatch.proofs.ReachedRules.{steps, starts, alive-nil}
 
 -- after the first j bytes
 abbrev pub first_bytes : List ℕ → ℕ → List ℕ
@@ -26,9 +26,8 @@ first_bytes value j = reverse (take j value)
 abbrev pub alive_at : Case → List Token → List ℕ → ℕ → ℕ → Bool
 alive_at case ts value k j = alive case ts (first_bytes value j) k
 
-range-more : (m a : ℕ) → range_with_len a (suc m) ≡ range_with_len a m ++ (a + m) ∷ []
-range-more zero a = ap (λ x. x ∷ []) (sym (add-zero a))
-range-more (suc m) a = grind (arith, nat_tests, range-more m)
+range-more : (m a : ℕ) → range_with_len a (m + 1) ≡ range_with_len a m ++ (a + m) ∷ []
+range-more m a = simp map-id at (map-range_with_len_more (λ (k : ℕ). k) a m (a + m) refl)
 
 pub pairs-more : (test : ℕ → ℕ → Bool) (n i : ℕ) →
     pairs_passed test n (i + 1) ≡ pairs_passed test n i + count_by (λ k. test k (i + 1)) (range_with_len 0 (n + 1))
@@ -52,21 +51,26 @@ length-indexes_below : (test : ℕ → Bool) (n : ℕ) (row : List ℕ) → row 
 length-indexes_below test n row e = ap length e ∙ length-filter test (range_with_len 0 n)
 
 length-row : (test : ℕ → Bool) (n : ℕ) (row : List ℕ) → row ≡ indexes_below test n → length row ≤ n
-length-row test n row e = grind (arith, nat_tests, length-filter-le, length-range_with_len)
+length-row test n row e = grind (arith, nat_tests, length-indexes_below, count_by-le-length test (range_with_len 0 n), length-range_with_len)
+
+-- at the start no index after the row is fresh
+start_quiet : (case : Case) (ts : List Token) (row : List ℕ) (free : ℕ) → IsRow ts (fresh case ts []) (alive case ts []) row free → 0 < free →
+    (k : ℕ) → free ≤ k → k ≤ length ts → fresh case ts [] k ≡ false
+start_quiet case ts row free r p zero l m = absurd (omega arith)
+start_quiet case ts row free r p (suc k) l m =
+    let quiet = start_quiet case ts row free r p k in
+    let closed = r.closed k in
+    let same = add-one k in
+    by_test (fresh case ts [] (suc k))
+    (λ t. let w = starts case ts k (omega arith) (ap (fresh case ts []) same ∙ t) in grind (arith, true_false, quiet, closed, w))
+    (λ f. f)
 
 pub at_start : (case : Case) (ts : List Token) (value row : List ℕ) (free : ℕ) →
     IsRow ts (fresh case ts []) (alive case ts []) row free → 0 < free → free ≤ length ts + 1 → free ≤ length row →
     IsAt case ts value row free (length row) 0
 at_start case ts value row free r p l q =
-    let u : IsUnderway case ts 0 (fresh case ts []) (alive case ts []) nothing row
-    (length ts + 1) free = record {
-      step = starts case ts 0;
-      first = λ e. absurd
-          (omega arith);
-      row_is = r;
-      settled = record { stay = λ k h o t. cc; directory = λ k h o t. cc; advance = λ k h o t. cc };
-    } in
-    let none : (k : ℕ) → free ≤ k → k ≤ length ts → alive case ts [] k ≡ false = λ k a b. silent u (omega arith) k a (omega arith) in
+    let none : (k : ℕ) → free ≤ k → k ≤ length ts → alive case ts [] k ≡ false =
+    λ k a b. alive-nil case ts k ∙ start_quiet case ts row free r p k a b in
     let whole = row-whole case ts [] row free r l none in
     grind (arith, nat_tests, length-indexes_below, alive, zero-add, count_by, length-row)
 
@@ -103,22 +107,22 @@ below_free case ts value row free visits i a =
     below test zero a most h = tt
     below test (suc n) a most h = grind (arith, nat_tests, by_test, below test n (a + 1) most)
 
--- where no index is alive, none is after any further bytes
-pub dead : (case : Case) (ts : List Token) (value : List ℕ) (i : ℕ) → is_bordered true ts ≡ true →
-    ((k : ℕ) → k ≤ length ts → alive_at case ts value k i ≡ false) → (d : ℕ) → i + d ≤ length value →
-    (k : ℕ) → k ≤ length ts → alive_at case ts value k (i + d) ≡ false
-dead case ts value i bordered none zero h k l = subst (λ x. alive_at case ts value k x ≡ false) (sym (add-zero i)) (none k l)
-dead case ts value i bordered none (suc d) h k l =
-    let same : i + d + 1 ≡ i + suc d = omega arith in
-    let before = dead case ts value i bordered none d (omega arith) in
-    let u : IsUnderway case ts (get_or value (i + d) 0) (fresh case ts (first_bytes value (i + d + 1)))
-    (alive case ts (first_bytes value (i + d + 1))) (alive case ts (first_bytes value (i + d))) [] (length ts + 1) 0 = record {
-      step = step_at case ts value (i + d) bordered (omega arith);
-      first = λ e. fresh-first case ts value (i + d) (omega arith);
-      row_is = empty_row ts (fresh case ts (first_bytes value (i + d + 1))) (alive case ts (first_bytes value (i + d + 1))) [] refl;
+-- where no index is alive, none is after the next byte
+dead_more : (case : Case) (ts : List Token) (value row : List ℕ) (visits i : ℕ) → is_bordered true ts ≡ true →
+    IsAt case ts value row 0 visits i → i < length value → IsAt case ts value [] 0 visits (i + 1)
+dead_more case ts value row visits i bordered a h =
+    let more = first_bytes value (i + 1) in
+    let empty = empty_row ts (fresh case ts more) (alive case ts more) [] refl in
+    let none : (k : ℕ) → k ≤ length ts → alive_at case ts value k i ≡ false = λ k l. a.beyond k (omega arith) l in
+    let u : IsUnderway case ts (get_or value i 0) (fresh case ts more) (alive case ts more) (alive case ts (first_bytes value i)) []
+    (length ts + 1) 0 = record {
+      step = step_at case ts value i bordered h;
+      first = λ e. fresh-first case ts value i h;
+      row_is = empty;
       settled = grind (arith, nat_tests, true_false);
     } in
-    subst (λ x. alive_at case ts value k x ≡ false) same (silent u (omega arith) k (omega arith) (omega arith))
+    subst (λ x. IsAt case ts value [] 0 x (i + 1)) (add-zero visits)
+    (at_more case ts value row [] 0 0 visits i a h empty (λ k l m. silent u (omega arith) k l (omega arith)) (omega arith) (omega arith))
 
 alive_of_match : (case : Case) (ts : List Token) (value : List ℕ) (k j : ℕ) → Match case (take k ts) (take j value) → alive_at case ts value k j ≡
     true
@@ -132,7 +136,7 @@ missed case ts value visits h = grind (arith, nat_tests, sum_by-le-sum_by, growi
 
 match_of_last : (case : Case) (ts : List Token) (value : List ℕ) → alive_at case ts value (length ts) (length value) ≡ true → Match case ts value
 match_of_last case ts value h =
-    let fact4 = slice_get-missing ts (length ts) in
+    let fact4 = slice_get_past ts (length ts) in
     let fact = match_of_reached case (reverse (take (length ts) ts)) in
     let fact3 = reverse-reverse (take (length ts) ts) in
     let fact2 = reverse-reverse (take (length value) value) in
@@ -150,33 +154,15 @@ pub missed_at_end : (case : Case) (ts : List Token) (value row : List ℕ) (free
     ReachedAtMost case ts value visits
 missed_at_end case ts value row free visits a = missed case ts value visits (omega (arith, a.counted))
 
--- where the row is empty
-no_pairs : (test : ℕ → Bool) (n a : ℕ) → ((k : ℕ) → k < a + n → test k ≡ false) → count_by test (range_with_len a n) ≡ 0
-no_pairs test n a h = sym (length-filter test (range_with_len a n)) ∙ ap length (none n a h)
-  where
-    none : (n a : ℕ) → ((k : ℕ) → k < a + n → test k ≡ false) → filter test (range_with_len a n) ≡ []
-    none zero a h = refl
-    none (suc n) a h = rw (h a (omega arith)) (none n (a + 1) (λ k l. h k (omega arith)))
+-- where no index is alive, none is at the end of the value
+dead_end : (case : Case) (ts : List Token) (value row : List ℕ) (visits i d : ℕ) → is_bordered true ts ≡ true →
+    IsAt case ts value row 0 visits i → i + d ≡ length value → (last : List ℕ) × IsAt case ts value last 0 visits (length value)
+dead_end case ts value row visits i zero bordered a e = (row, subst (IsAt case ts value row 0 visits) (sym (add-zero i) ∙ e) a)
+dead_end case ts value row visits i (suc d) bordered a e =
+    dead_end case ts value [] visits (i + 1) d bordered (dead_more case ts value row visits i bordered a (omega arith)) (omega arith)
 
-pairs-dead : (case : Case) (ts : List Token) (value : List ℕ) (i : ℕ) → is_bordered true ts ≡ true →
-    ((k : ℕ) → k ≤ length ts → alive_at case ts value k i ≡ false) → (d : ℕ) → i + d ≤ length value →
-    pairs_passed (alive_at case ts value) (length ts) (i + d) ≡ pairs_passed (alive_at case ts value) (length ts) i
-pairs-dead case ts value i bordered none zero h = ap (pairs_passed (alive_at case ts value) (length ts)) (add-zero i)
-pairs-dead case ts value i bordered none (suc d) h =
-    grind (arith, nat_tests, dead, no_pairs, pairs-more, add-zero, pairs-dead case ts value i bordered none d)
-
-pub unmatched_where_dead : (case : Case) (ts : List Token) (value row : List ℕ) (visits i : ℕ) → is_bordered true ts ≡ true →
-    IsAt case ts value row 0 visits i → i ≤ length value → Match case ts value → ⊥
-unmatched_where_dead case ts value row visits i bordered a l m =
-    let same : i + (length value - i) ≡ length value = omega arith in
-    grind (arith, nat_tests, true_false, last_of_match, dead)
-
-pub missed_where_dead : (case : Case) (ts : List Token) (value row : List ℕ) (visits i : ℕ) → is_bordered true ts ≡ true →
-    IsAt case ts value row 0 visits i → i ≤ length value → ReachedAtMost case ts value visits
-missed_where_dead case ts value row visits i bordered a l =
-    let same : i + (length value - i) ≡ length value = omega arith in
-    let none : (k : ℕ) → k ≤ length ts → alive_at case ts value k i ≡ false = λ k b. a.beyond k (omega arith) b in
-    let e : pairs_passed (alive_at case ts value) (length ts) (length value) ≡ visits =
-    ap (pairs_passed (alive_at case ts value) (length ts)) (sym same) ∙
-    (pairs-dead case ts value i bordered none (length value - i) (omega arith) ∙ sym a.counted) in
-    missed case ts value visits (omega arith)
+pub dead : (case : Case) (ts : List Token) (value row : List ℕ) (free visits i : ℕ) → is_bordered true ts ≡ true →
+    IsAt case ts value row free visits i → free ≡ 0 → i ≤ length value → (Match case ts value → ⊥) × ReachedAtMost case ts value visits
+dead case ts value row free visits i bordered a none l =
+    let e = dead_end case ts value row visits i (length value - i) bordered (subst (λ x. IsAt case ts value row x visits i) none a) (omega arith) in
+    ((λ m. absurd (let f = (matched_at_end case ts value e.0 0 visits e.1).1 m in omega arith)), missed_at_end case ts value e.0 0 visits e.1)

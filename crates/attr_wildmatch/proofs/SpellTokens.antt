@@ -1,7 +1,7 @@
 -- The tokens of a text, read and spelled.
 use Rattle.std.proofs.lemmas.Grind.{common_steps}
 use Rattle.std.proofs.Common.{◌≡◌, ◌≤◌, ◌<◌, ℕ, zero, suc, Bool, true, false, ◌&&◌, ◌==◌, ◌⊎◌, inl, inr, List, [], ◌∷◌, ◌++◌, length, replicate}
-use Rattle.std.proofs.Common.{Option, Some, option_map, refl, sym, ap, subst, ◌∙◌, arith, append-nil}
+use Rattle.std.proofs.Common.{Some, refl, sym, ap, subst, ◌∙◌, arith, append-nil}
 use Rattle.std.proofs.lemmas.Bool.Decides.{nat_tests}
 use Rattle.std.proofs.lemmas.Bool.{and_from, and_parts, eq-eqb, eqb-false, eqb-true, ne_eqb, or_left, or_right}
 use Rattle.attr_wildmatch.specs.declared.bracket.Member.{Member}
@@ -10,7 +10,8 @@ use Rattle.attr_wildmatch.specs.Brackets.{negates, begins, members}
 use Rattle.attr_wildmatch.specs.Tokens.{Token, lit, one, set, star, dirs, rest, after_stars, directory_at, stars_at, bracket_at, escape_at, token_at}
 use Rattle.attr_wildmatch.specs.Tokens.{token_ends_in_slash, tokens_from, tokens}
 use Rattle.attr_wildmatch.specs.Spelling.{AreMembers, IsRun, IsToken, AreTokens}
-use Rattle.attr_wildmatch.proofs.Basics.{by_test, by_option, pair_parts, true_false}
+use Rattle.attr_wildmatch.specs.inner.Bordered.{is_bordered}
+use Rattle.attr_wildmatch.proofs.Basics.{by_test, by_option, pair_parts, same_pair, true_false}
 use Rattle.attr_wildmatch.proofs.SpellMembers.{members_of, members_read, member_shorter}
 
 -- Runs of stars.
@@ -22,37 +23,23 @@ Run n others bs = IsRun bs n others
 record Stars (bs : List ℕ) : Type 0 where
   count : ℕ
   whole : bs ≡ replicate count asterisk ++ after_stars bs
-  longest : (more : List ℕ) → after_stars bs ≡ asterisk ∷ more → ⊥
   some : begins asterisk bs ≡ true → 1 ≤ count
   none : begins asterisk bs ≡ false → count ≡ 0
 
 stars_of : (bs : List ℕ) → Stars bs
-stars_of (b ∷ bs) = by_test (b == asterisk) (λ t. further b bs t (stars_of bs)) (λ f. ended b bs f)
-  where
-    further : (b : ℕ) (bs : List ℕ) → (b == asterisk) ≡ true → Stars bs → Stars (b ∷ bs)
-    further b bs t s = record {
+stars_of [] = record { count = 0; whole = refl; some = λ e. absurd cc; none = λ e. refl }
+stars_of (b ∷ bs) = by_test (b == asterisk)
+    (λ t. let s = stars_of bs in record {
       count = suc s.count;
-      whole = grind (arith, nat_tests, eqb-true, replicate, kept);
-      longest = λ more e. s.longest more (sym (kept t) ∙ e);
+      whole = rw t (ap (λ x. x ∷ bs) (eqb-true b asterisk t) ∙ ap (λ x. asterisk ∷ x) s.whole);
       some = λ e. omega arith;
       none = λ e. absurd (true_false _ t e);
-    }
-      where
-        kept : (b == asterisk) ≡ true → after_stars (b ∷ bs) ≡ after_stars bs
-        kept t = rw t
+    })
+    (λ f. record { count = 0; whole = rw f refl; some = λ e. absurd (true_false _ e f); none = λ e. refl })
 
-    ended : (b : ℕ) (bs : List ℕ) → (b == asterisk) ≡ false → Stars (b ∷ bs)
-    ended b bs f = record {
-      count = 0;
-      whole = sym (stopped f);
-      longest = λ more e. grind (arith, nat_tests, stopped, true_false, eq-eqb);
-      some = λ e. absurd (true_false _ e f);
-      none = λ e. refl;
-    }
-      where
-        stopped : (b == asterisk) ≡ false → after_stars (b ∷ bs) ≡ b ∷ bs
-        stopped f = rw f
-stars_of bs = grind (arith, nat_tests, true_false)
+no_star_left : (bs more : List ℕ) → after_stars bs ≡ asterisk ∷ more → ⊥
+no_star_left [] more e = cc
+no_star_left (b ∷ bs) more e = grind (arith, nat_tests, no_star_left bs more)
 
 after_run : (n : ℕ) (others : List ℕ) → ((more : List ℕ) → others ≡ asterisk ∷ more → ⊥) → after_stars (replicate n asterisk ++ others) ≡ others
 after_run zero [] h = refl
@@ -62,7 +49,7 @@ after_run (suc n) others h = after_run n others h
 pub stars_spelled : (border : Bool) (bs : List ℕ) → IsToken border (asterisk ∷ bs) (stars_at border bs).0 (stars_at border bs).1
 stars_spelled border bs = by_test (border && begins asterisk bs)
     (λ t. let w = and_parts border (begins asterisk bs) t in rw t (directory (stars_of bs) w.0 w.1 (after_stars bs) refl))
-    (λ f. rw f (let s = stars_of bs in grind (arith, nat_tests, true_false, and_from, long_begins)))
+    (λ f. rw f (let s = stars_of bs in grind (arith, nat_tests, true_false, and_from, long_begins, no_star_left bs)))
   where
     long_begins : (s : Stars bs) → 1 ≤ s.count → begins asterisk bs ≡ true
     long_begins s l = by_test (begins asterisk bs) (λ t. t) (λ f. absurd (let e : s.count ≡ 0 = s.none f in omega arith))
@@ -73,7 +60,7 @@ stars_spelled border bs = by_test (border && begins asterisk bs)
 
     directory : Stars bs → border ≡ true → begins asterisk bs ≡ true → (after : List ℕ) → after_stars bs ≡ after → IsToken border (asterisk ∷ bs)
         (directory_at after).0 (directory_at after).1
-    directory s b g after e = grind (arith, nat_tests, positive, replicate, append-nil, by_test, eqb-true, eqb-false)
+    directory s b g after e = grind (arith, nat_tests, positive, replicate, append-nil, by_test, eqb-true, eqb-false, no_star_left bs)
 
 -- Brackets and single tokens.
 
@@ -87,39 +74,35 @@ bracket_spelled : (border : Bool) (bs : List ℕ) (t : Token) (others : List ℕ
     t others
 bracket_spelled border [] t others h = cc
 bracket_spelled border (b ∷ bs) t others h = by_test (negates b)
-    (λ n. as_set true (members (length bs) true bs) (rw n at h) (λ ms z e. (b, bs, refl, negates_of b n, members_of (length bs) true bs ms z e)))
-    (λ n. as_set false (members (length (b ∷ bs)) true (b ∷ bs)) (rw n at h) (λ ms z e. (
+    (λ n. by_option (members (length bs) true bs)
+    (λ j. let e = rw (n, j) at h in cc)
+    (λ q j. same_pair (IsToken border (open_bracket ∷ b ∷ bs)) (set true q.0, q.1) t others (rw (n, j) at h)
+    (b, bs, refl, negates_of b n, members_of (length bs) true bs q.0 q.1 j)))
+    (λ n. by_option (members (length (b ∷ bs)) true (b ∷ bs))
+    (λ j. let e = rw (n, j) at h in cc)
+    (λ q j. same_pair (IsToken border (open_bracket ∷ b ∷ bs)) (set false q.0, q.1) t others (rw (n, j) at h) (
       b,
       bs,
       refl,
-      (λ q. true_false _ (negates_so b (inl q)) n),
-      (λ q. true_false _ (negates_so b (inr q)) n),
-      members_of (length (b ∷ bs)) true
-          (b ∷ bs) ms z e,
+      (λ k. true_false _ (negates_so b (inl k)) n),
+      (λ k. true_false _ (negates_so b (inr k)) n),
+      members_of (length (b ∷ bs)) true (b ∷ bs) q.0 q.1 j,
     )))
-  where
-    as_set : (n : Bool) (o : Option (List Member × List ℕ)) → option_map {U = Token × List ℕ} (λ p. (set n p.0, p.1)) o ≡ Some (t, others) →
-        ((ms : List Member) (z : List ℕ) → o ≡ Some (ms, z) → IsToken border (open_bracket ∷ b ∷ bs) (set n ms) z) → IsToken border
-        (open_bracket ∷ b ∷ bs) t others
-    as_set n o e f = grind (arith, nat_tests, pair_parts)
 
 pub token_spelled : (border : Bool) (b : ℕ) (bs : List ℕ) (t : Token) (others : List ℕ) → token_at border b bs ≡ Some (t, others) → IsToken border
     (b ∷ bs) t others
 token_spelled border b bs t others h =
     by_test (b == question_mark)
-    (λ y. same (one, bs) (rw y at h) (ap (λ x. x ∷ bs) (eqb-true b question_mark y)))
+    (λ y. same_pair (IsToken border (b ∷ bs)) (one, bs) t others (rw y at h) (ap (λ x. x ∷ bs) (eqb-true b question_mark y)))
     (λ n1. let h1 = rw n1 at h in by_test (b == backslash)
     (λ y. escape bs (rw y at h1) (eqb-true b backslash y))
     (λ n2. let h2 = rw n2 at h1 in by_test (b == open_bracket)
     (λ y. subst (λ x. IsToken border (x ∷ bs) t others) (sym (eqb-true b open_bracket y)) (bracket_spelled border bs t others (rw y at h2)))
     (λ n3. let h3 = rw n3 at h2 in by_test (b == asterisk)
-    (λ y. same (stars_at border bs) (rw y at h3) (subst (λ x. IsToken border (x ∷ bs) (stars_at border bs).0 (stars_at border bs).1)
-    (sym (eqb-true b asterisk y)) (stars_spelled border bs)))
-    (λ n4. grind (arith, nat_tests, same, eqb-false)))))
+    (λ y. same_pair (IsToken border (b ∷ bs)) (stars_at border bs) t others (rw y at h3)
+    (subst (λ x. IsToken border (x ∷ bs) (stars_at border bs).0 (stars_at border bs).1) (sym (eqb-true b asterisk y)) (stars_spelled border bs)))
+    (λ n4. let h4 = rw n4 at h3 in grind (arith, nat_tests, same_pair (IsToken border (b ∷ bs)) (lit b, bs) t others, eqb-false)))))
   where
-    same : (p : Token × List ℕ) → Some p ≡ Some (t, others) → IsToken border (b ∷ bs) p.0 p.1 → IsToken border (b ∷ bs) t others
-    same p e i = grind (arith, nat_tests, pair_parts)
-
     escape : (bs : List ℕ) → escape_at bs ≡ Some (t, others) → b ≡ backslash → IsToken border (b ∷ bs) t others
     escape bs e q = grind (arith, nat_tests, pair_parts)
 
@@ -158,35 +141,26 @@ token_shorter border text t others h = grind (arith, common_steps, nat_tests, me
 
 -- Lists of tokens.
 
-from_step : (n : ℕ) (border : Bool) (b : ℕ) (bs : List ℕ) (ts : List Token) →
-    ((border : Bool) (text : List ℕ) (q : List Token) → tokens_from n border text ≡ Some q → AreTokens border text q) →
-    tokens_from (suc n) border (b ∷ bs) ≡ Some ts → AreTokens border (b ∷ bs) ts
-from_step n border b bs ts f h = by_option (token_at border b bs)
-    (λ k. let e = rw k at h in cc)
-    (λ p k. onto p.0 p.1 (tokens_from n (token_ends_in_slash p.0) p.1) (token_spelled border b bs p.0 p.1 k)
-    (λ q e. f (token_ends_in_slash p.0) p.1 q e) (rw k at h))
-  where
-    onto : (t : Token) (mid : List ℕ) (o : Option (List Token)) → IsToken border (b ∷ bs) t mid →
-        ((q : List Token) → o ≡ Some q → AreTokens (token_ends_in_slash t) mid q) → option_map (λ q. t ∷ q) o ≡ Some ts → AreTokens border (b ∷ bs) ts
-    onto t mid o i f e = grind (arith, nat_tests)
-
 pub tokens_spelled : (n : ℕ) (border : Bool) (text : List ℕ) (ts : List Token) → tokens_from n border text ≡ Some ts → AreTokens border text ts
-tokens_spelled (suc n) border (b ∷ bs) ts h = from_step n border b bs ts (λ w x q e. tokens_spelled n w x q e) h
+tokens_spelled (suc n) border (b ∷ bs) ts h = by_option (token_at border b bs)
+    (λ k. let e = rw k at h in cc)
+    (λ p k. by_option (tokens_from n (token_ends_in_slash p.0) p.1)
+    (λ j. let e = rw (k, j) at h in cc)
+    (λ q j.
+    let e = rw (k, j) at h in
+    let same : p.0 ∷ q ≡ ts = cc in
+    subst (AreTokens border (b ∷ bs)) same (p.1, token_spelled border b bs p.0 p.1 k, tokens_spelled n (token_ends_in_slash p.0) p.1 q j)))
 tokens_spelled n border text ts h = grind (arith, nat_tests)
 
 pub tokens_read : (n : ℕ) (border : Bool) (text : List ℕ) (ts : List Token) → length text ≤ n → AreTokens border text ts → tokens_from n border text ≡
     Some ts
 tokens_read n border text [] l h = ap (tokens_from n border) h
-tokens_read n border text (t ∷ ts) l h =
+tokens_read zero border text (t ∷ ts) l h = let s = token_shorter border text t h.0 h.1 in absurd (omega arith)
+tokens_read (suc n) border text (t ∷ ts) l h =
     let r = token_read border text t h.0 h.1 in
     let s = token_shorter border text t h.0 h.1 in
-    let e : length text ≡ suc (length r.tail) = ap length r.whole in
-    subst (λ x. tokens_from n border x ≡ Some (t ∷ ts)) (sym r.whole)
-    (more n r.byte r.tail (omega arith) r.read (λ k q. tokens_read k (token_ends_in_slash t) h.0 ts (omega arith) h.2))
-  where
-    more : (n b : ℕ) (bs : List ℕ) → suc (length bs) ≤ n → token_at border b bs ≡ Some (t, h.0) →
-        ((k : ℕ) → length bs ≤ k → tokens_from k (token_ends_in_slash t) h.0 ≡ Some ts) → tokens_from n border (b ∷ bs) ≡ Some (t ∷ ts)
-    more n b bs q e f = grind (arith, nat_tests)
+    let later = tokens_read n (token_ends_in_slash t) h.0 ts (omega arith) h.2 in
+    rw (r.whole, r.read, later)
 
 -- the text's tokens are those that it spells
 pub spelled : (text : List ℕ) (ts : List Token) → tokens text ≡ Some ts → AreTokens true text ts
@@ -194,3 +168,11 @@ spelled text ts h = tokens_spelled (length text) true text ts h
 
 pub read_back : (text : List ℕ) (ts : List Token) → AreTokens true text ts → tokens text ≡ Some ts
 read_back text ts h = tokens_read (length text) true text ts (omega arith) h
+
+-- a directory star is spelled only where git has one
+bordered_spelled : (border : Bool) (text : List ℕ) (ts : List Token) → AreTokens border text ts → is_bordered border ts ≡ true
+bordered_spelled border text [] h = refl
+bordered_spelled border text (t ∷ ts) h = grind (arith, nat_tests, and_from, bordered_spelled (token_ends_in_slash t) h.0 ts)
+
+pub bordered : (text : List ℕ) (ts : List Token) → tokens text ≡ Some ts → is_bordered true ts ≡ true
+bordered text ts h = bordered_spelled true text ts (spelled text ts h)

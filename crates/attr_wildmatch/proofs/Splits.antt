@@ -78,8 +78,7 @@ slash_split f (b ∷ bs) h = elim (or_cases (b == slash && f bs) (slash_then f b
         others = s.others;
         whole = ap (λ x. b ∷ x) s.whole;
         holds = (b ∷ s.holds.0, ap (λ x. b ∷ x) s.holds.1);
-        taken =
-            s.taken;
+        taken = s.taken;
       }
 ]
 

@@ -1,14 +1,11 @@
 -- The tokens of a text, one after the other.
-use Rattle.std.proofs.Common.{◌≡◌, ◌≤◌, ◌<◌, ℕ, zero, suc, Bool, true, false, List, [], ◌∷◌, ◌++◌, length, slice_get, get_or, nat_lt, is_some}
+use Rattle.std.proofs.Common.{◌≡◌, ◌≤◌, ℕ, zero, suc, Bool, List, [], ◌∷◌, ◌++◌, length, slice_get, get_or, nat_lt, is_some}
 use Rattle.std.proofs.Common.{IfSome, Bor, Option, None, Some, option_map, refl, ap, append_assoc, arith}
 use Rattle.std.proofs.lemmas.Bool.Decides.{nat_tests}
+use Rattle.std.proofs.lemmas.Option.{slice_get_past, slice_get_read}
 use Rattle.attr_wildmatch.specs.declared.token.Token as written
-use Rattle.attr_wildmatch.specs.declared.bracket.Member.{Member}
-use Rattle.attr_wildmatch.specs.Tokens.{Token, set, dirs, tokens_from, token_at, bracket_at, token_ends_in_slash}
-use Rattle.attr_wildmatch.specs.Brackets.{members, negates}
+use Rattle.attr_wildmatch.specs.Tokens.{Token, tokens_from, token_at, token_ends_in_slash}
 use Rattle.attr_wildmatch.specs.TokenList.{token_of, tokens_of}
-use Rattle.attr_wildmatch.specs.inner.Bordered.{is_bordered}
-use Rattle.attr_wildmatch.proofs.Basics.{by_test}
 
 -- what was read before, and then what is read here
 abbrev pub after : List Token → Option (List Token) → Option (List Token)
@@ -41,59 +38,7 @@ pub slice_get_tokens_of : (ts : List written.Token) (k : ℕ) → slice_get (tok
 slice_get_tokens_of (t ∷ ts) (suc k) = slice_get_tokens_of ts k
 slice_get_tokens_of ts k = refl
 
-slice_get-found : (ts : List written.Token) (k : ℕ) (t : written.Token) → k < length ts → t ≡ get_or ts k t →
-    slice_get ts k ≡ Some t
-slice_get-found (u ∷ ts) (suc k) t h e = slice_get-found ts k t (omega arith) e
-slice_get-found ts k t h e = grind (arith, nat_tests)
-
-pub slice_get-missing : {A : Type 0} (ts : List A) (k : ℕ) → length ts ≤ k → slice_get ts k ≡ None
-slice_get-missing (u ∷ ts) (suc k) h = slice_get-missing ts k (omega arith)
-slice_get-missing ts k h = grind (arith, nat_tests)
-
 -- what `get` gives
 pub looked_up : (ts : List written.Token) (k : ℕ) (o : Option (Bor written.Token)) → is_some o ≡ nat_lt k (length ts) →
     IfSome o (λ x. x.now ≡ get_or ts k x.now) → option_map (λ t. token_of t.now) o ≡ slice_get (tokens_of ts) k
-looked_up ts k o h e = grind (arith, nat_tests, slice_get_tokens_of, slice_get-missing, slice_get-found)
-
--- what follows tokens that end so: a directory star only where the last one ends in a slash
-abbrev pub border_after : Bool → List Token → Bool
-border_after border [] = border
-border_after border (t ∷ ts) = border_after (token_ends_in_slash t) ts
-
--- a directory star is read only at a border
-abbrev pub fits_border : Bool → Token → Bool
-fits_border border dirs = border
-fits_border border t = true
-
-pub bordered-push : (border : Bool) (ts : List Token) (t : Token) → is_bordered border ts ≡ true →
-    fits_border (border_after border ts) t ≡ true → is_bordered border (ts ++ t ∷ []) ≡ true
-bordered-push border [] dirs h f = rw f
-bordered-push border [] t h f = refl
-bordered-push true (dirs ∷ ts) t h f = bordered-push true ts t h f
-bordered-push false (dirs ∷ ts) t h f = cc
-bordered-push border (u ∷ ts) t h f = bordered-push (token_ends_in_slash u) ts t h f
-
-pub border_after-push : (border : Bool) (ts : List Token) (t : Token) → border_after border (ts ++ t ∷ []) ≡ token_ends_in_slash t
-border_after-push border [] t = refl
-border_after-push border (u ∷ ts) t = border_after-push (token_ends_in_slash u) ts t
-
--- what is read fits where there is no border
-abbrev fits_read : Option (Token × List ℕ) → Bool
-fits_read None = true
-fits_read (Some p) = fits_border false p.0
-
-set_fits : (n : Bool) (o : Option (List Member × List ℕ)) → fits_read (option_map (λ p. (set n p.0, p.1)) o) ≡ true
-set_fits n o = grind (arith, nat_tests)
-
-bracket_fits : (bs : List ℕ) → fits_read (bracket_at bs) ≡ true
-bracket_fits [] = refl
-bracket_fits (c ∷ bs) =
-    by_test (negates c) (λ t. rw t (set_fits true (members (length bs) true bs)))
-    (λ f. rw f (set_fits false (members (length (c ∷ bs)) true (c ∷ bs))))
-
-token_fits : (b : ℕ) (bs : List ℕ) → fits_read (token_at false b bs) ≡ true
-token_fits b bs = grind (arith, nat_tests, bracket_fits)
-
-pub token_at-fits : (border : Bool) (b : ℕ) (bs : List ℕ) (t : Token) (tail : List ℕ) →
-    token_at border b bs ≡ Some (t, tail) → fits_border border t ≡ true
-token_at-fits border b bs t tail h = grind (arith, nat_tests, token_fits b bs)
+looked_up ts k o h e = grind (arith, nat_tests, slice_get_tokens_of, slice_get_past, slice_get_read)

@@ -53,7 +53,7 @@ fn answer_front(tokens: &[Token], value: &[u8], case: Case) -> Option<bool>
 }
 
 // The next directory in which the tokens may match: if they begin with a byte whose case matters, one that begins with it.
-#[tactic(auto, using(crate::proofs::FirstBytes::no_start, crate::proofs::FirstBytes::no_slash, crate::proofs::FirstBytes::no_bytes, crate::proofs::FirstBytes::from_first_shorter))]
+#[tactic(auto, using(crate::proofs::FirstBytes::on_start, crate::proofs::FirstBytes::on_slash, crate::proofs::FirstBytes::no_bytes, crate::proofs::FirstBytes::from_first_shorter))]
 fn next_directory<'v>(tokens: &[Token], value: &'v [u8], case: Case) -> Option<&'v [u8]>
     ensures next { IfSome result (λ next. let f = matches case (tokens_of tokens.now) in
         slash_then f value.now ≡ (f next.now || slash_then f next.now)) }

@@ -1,17 +1,17 @@
+use Rattle.std.proofs.lemmas.Grind.{common_steps}
 use Rattle.std.proofs.lemmas.Bool.Decides.{nat_tests}
-use Rattle.std.proofs.Common.{◌≡◌, ◌+◌, ◌≤◌, suc, length, true, Some, [], ◌∷◌, ◌++◌, arith, ap, sym, ◌∙◌, refl}
+use Rattle.std.proofs.Common.{◌≡◌, ◌+◌, ◌≤◌, suc, length, true, Some, [], ◌∷◌, ◌++◌, arith, ap, sym, ◌∙◌}
 use Rattle.std.proofs.lemmas.List.{length_push}
 use Rattle.attr_wildmatch.specs.Tokens.{tokens_from, token_at, token_ends_in_slash}
 use Rattle.attr_wildmatch.specs.TokenList.{token_of, tokens_of}
-use Rattle.attr_wildmatch.specs.inner.Bordered.{is_bordered}
-use Rattle.attr_wildmatch.proofs.TokenLemmas.{after, after-nil, tokens_more, tokens_of-push, length_of_tokens, bordered-push, border_after}
-use Rattle.attr_wildmatch.proofs.TokenLemmas.{border_after-push, token_at-fits, fits_border}
+use Rattle.attr_wildmatch.proofs.TokenLemmas.{after, after-nil, tokens_more, tokens_of-push, length_of_tokens}
+use Rattle.attr_wildmatch.proofs.SpellTokens.{bordered}
 use Rattle.attr_wildmatch.proofs.token.Tokens.read.Goals as goal
 
 pub loop-byte-init : goal.loop-byte-init
 loop-byte-init c =
     rw c.in_ok-list.ensures.items
-    (omega arith, length c.args.text.now, omega arith, after-nil (tokens_from (length c.args.text.now) true c.args.text.now), refl, refl)
+    (omega arith, length c.args.text.now, omega arith, after-nil (tokens_from (length c.args.text.now) true c.args.text.now))
 
 pub returns-clause-few : goal.returns-clause-few
 returns-clause-few c = rw length_of_tokens (omega (arith, c.loop-byte.invariant.0))
@@ -33,12 +33,8 @@ loop-byte-preserved c =
     let pushed : c.push.new.self.items ≡ list ++ c.in-Some-2.token ∷ [] = c.in_ok-push.ensures.items in
     let meant : tokens_of c.push.new.self.items ≡ tokens_of list ++ t ∷ [] = ap tokens_of pushed ∙ tokens_of-push list c.in-Some-2.token in
     let longer : length c.push.new.self.items ≡ length list + 1 = ap length pushed ∙ length_push list c.in-Some-2.token in
-    let slash : c.ends_in_slash-border.result ≡ token_ends_in_slash t = c.ends_in_slash-border.ensures in (
-      omega (arith, before.0),
-      next.0,
-      next.1,
-      grind (arith, nat_tests, after),
-      ap (is_bordered true) meant ∙
-          bordered-push true (tokens_of list) t before.4 (ap (λ x. fits_border x t) before.5 ∙ token_at-fits c.loop-byte.border b bs t rest read),
-      ap (border_after true) meant ∙ (border_after-push true (tokens_of list) t ∙ sym slash),
-    )
+    let slash : c.ends_in_slash-border.result ≡ token_ends_in_slash t = c.ends_in_slash-border.ensures in
+    (omega (arith, before.0), next.0, next.1, grind (arith, nat_tests, after))
+
+pub invariant_of-result : goal.invariant_of-result
+invariant_of-result c = grind (arith, common_steps, nat_tests, bordered)

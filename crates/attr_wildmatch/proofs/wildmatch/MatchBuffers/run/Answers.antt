@@ -9,8 +9,8 @@ use Rattle.attr_wildmatch.proofs.TokenLemmas.{length_of_tokens}
 use Rattle.attr_wildmatch.proofs.RowLemmas.{empty_row}
 use Rattle.attr_wildmatch.proofs.Reached.{fresh, alive}
 use Rattle.attr_wildmatch.proofs.ReachedSteps.{growing}
-use Rattle.attr_wildmatch.proofs.RunLemmas.{IsAt, first_bytes, at_start, at_more, step_at, fresh-first, below_free, matched_at_end, missed_at_end}
-use Rattle.attr_wildmatch.proofs.RunLemmas.{unmatched_where_dead, missed_where_dead}
+use Rattle.attr_wildmatch.proofs.RunLemmas.{IsAt, first_bytes, at_start, at_more, step_at, fresh-first, below_free, matched_at_end}
+use Rattle.attr_wildmatch.proofs.RunLemmas.{missed_at_end, dead}
 use Rattle.attr_wildmatch.proofs.wildmatch.MatchBuffers.run.Goals as goal
 
 pub loop-byte-init : goal.loop-byte-init
@@ -34,26 +34,17 @@ loop-byte-init c =
 
 pub returns-then-free-eq0-clause-matched : goal.returns-then-free-eq0-clause-matched
 returns-then-free-eq0-clause-matched c =
-    let ts = tokens_of c.args.tokens.now in
-    let a = c.loop-byte.invariant.0 in
-    let dead = subst (λ x. IsAt c.args.case ts c.args.value.now c.loop-byte.self-inside.row.items x c.loop-byte.visits c.loop-byte.byte-index)
-    c.if-free-eq0.true a in (
-      (λ t. cc),
-      (λ m. absurd (unmatched_where_dead c.args.case ts c.args.value.now c.loop-byte.self-inside.row.items c.loop-byte.visits c.loop-byte.byte-index
-          c.requires.bordered dead (omega arith) m)),
-    )
+    let none = dead c.args.case (tokens_of c.args.tokens.now) c.args.value.now c.loop-byte.self-inside.row.items c.loop-byte.free c.loop-byte.visits
+    c.loop-byte.byte-index c.requires.bordered c.loop-byte.invariant.0 c.if-free-eq0.true (omega arith) in
+    ((λ t. cc), λ m. absurd (none.0 m))
 
 pub returns-then-free-eq0-clause-at_most : goal.returns-then-free-eq0-clause-at_most
 returns-then-free-eq0-clause-at_most c = grind (arith, common_steps, nat_tests, length_of_tokens, c.loop-byte.invariant.0.most)
 
 pub returns-then-free-eq0-clause-missed : goal.returns-then-free-eq0-clause-missed
 returns-then-free-eq0-clause-missed c =
-    let ts = tokens_of c.args.tokens.now in
-    let a = c.loop-byte.invariant.0 in
-    let dead = subst (λ x. IsAt c.args.case ts c.args.value.now c.loop-byte.self-inside.row.items x c.loop-byte.visits c.loop-byte.byte-index)
-    c.if-free-eq0.true a in
-    missed_where_dead c.args.case ts c.args.value.now c.loop-byte.self-inside.row.items c.loop-byte.visits c.loop-byte.byte-index
-    c.requires.bordered dead (omega arith)
+    (dead c.args.case (tokens_of c.args.tokens.now) c.args.value.now c.loop-byte.self-inside.row.items c.loop-byte.free c.loop-byte.visits
+    c.loop-byte.byte-index c.requires.bordered c.loop-byte.invariant.0 c.if-free-eq0.true (omega arith)).1
 
 pub next_row-free-requires-clause-capacity : goal.next_row-free-requires-clause-capacity
 next_row-free-requires-clause-capacity c = grind (arith, nat_tests, c.loop-byte.invariant.1)
