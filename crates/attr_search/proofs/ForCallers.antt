@@ -17,6 +17,5 @@ pub use Rattle.attr_search.proofs.TryingLemmas.{idle_tried}
 -- lists compare one by one as what is compared of each
 pub use Rattle.attr_search.proofs.CompareLemmas.{equal_alone, ordered_alone}
 -- which slots are free, of those that are listed in their order
-pub use Rattle.attr_search.proofs.ListedLemmas.{AreFreeButLeft, free_first, free_on, free_up_to, none_left}
 -- lines that were read are so with other numbers
 pub use Rattle.attr_search.proofs.IndexedListLemmas.{numbered_read}

@@ -1,11 +1,17 @@
 -- The first filled slot from a number on, by numbers in their order.
 use Rattle.attr_search.proofs.SlotLemmas.{is_some_map}
-use Rattle.std.proofs.Common.{◌≡◌, ◌≢◌, ℕ, ◌+◌, ◌<◌, ◌≤◌, true, List, length, get_or, Option, None, sym, ◌∙◌, arith}
+use Rattle.std.proofs.Common.{◌≡◌, ℕ, ◌<◌, ◌≤◌, true, List, length, get_or, Option, None, sym, ◌∙◌, arith, ⊎_elim}
 use Rattle.std.proofs.Common.{MatchOption, subst, nat_eq, is_some, suc, [], ◌∷◌, map, option_map}
-use Rattle.std.specs.List.Sorted.{IsNonDecreasing, IsPermutation}
+use Rattle.std.specs.Prelude.{slice_get}
+use Rattle.std.specs.Cmp.{nat_eq_equiv}
+use Rattle.std.specs.List.Sorted.{IsStrictlyIncreasing, IsPermutation}
+use Rattle.std.proofs.lemmas.List.Elements.{All-get_or}
 use Rattle.std.proofs.lemmas.List.Sorted.{All-permutation, list_any-IsPermutation}
-use Rattle.std.proofs.lemmas.Bool.{cases_eq, cases_lt}
+use Rattle.std.proofs.lemmas.Map.Keys.{IsDistinct-IsPermutation, non_decreasing_from_sorted, sorted_from_strictly_increasing}
+use Rattle.std.proofs.lemmas.List.{get_or_default}
+use Rattle.std.proofs.lemmas.Bool.{cases_lt}
 use Rattle.std.proofs.lemmas.List.Folds.{list_any_none}
+use Rattle.std.proofs.lemmas.Option.{slice_get_cases}
 use Rattle.attr_search.specs.Slots.{AreFreeFrom, IsNextFilled}
 use Rattle.attr_search.specs.shared.SlotContents.{AreListed}
 
@@ -14,53 +20,48 @@ mapped_at : {X Y : Type 0} (f : X → Y) (slots : List (Option X)) (n : ℕ) →
 mapped_at f (o ∷ slots) (suc n) = mapped_at f slots n
 mapped_at f slots n = grind arith
 
--- no number from this index on is n
-abbrev pub IsPast : List ℕ → ℕ → ℕ → Type 0
-IsPast numbers index n = (j d : ℕ) → index ≤ j → j < length numbers → get_or numbers j d ≢ n
+-- a slot is free if its number is below those that are listed from an index on, and not below those before
+free_between : {X : Type 0} (slots : List (Option X)) (numbers : List ℕ) (from start n : ℕ) → AreListed slots numbers →
+    ((j d : ℕ) → j < start → j < length numbers → get_or numbers j d < from) →
+    ((j d : ℕ) → start ≤ j → j < length numbers → n < get_or numbers j d) → from ≤ n → get_or slots n None ≡ None
+free_between slots numbers from start n listed below above le = grind (arith, list_any_none, cases_lt)
 
--- from a number on, a slot is free if its number isn't left
-abbrev pub AreFreeButLeft : {X : Type 0} → List (Option X) → List ℕ → ℕ → ℕ → Type 0
-AreFreeButLeft slots numbers from index = (n : ℕ) → from ≤ n → IsPast numbers index n → get_or slots n None ≡ None
-
--- at first, if the numbers before the index are below
-pub free_first : {X : Type 0} (slots : List (Option X)) (numbers : List ℕ) (from index : ℕ) → AreListed slots numbers →
-    ((j d : ℕ) → j < index → j < length numbers → get_or numbers j d < from) → AreFreeButLeft slots numbers from index
-free_first slots numbers from index listed below = grind (arith, list_any_none, cases_lt)
-
--- up to the number that is next in the order, slots are free
-pub free_up_to : {X : Type 0} (slots : List (Option X)) (numbers : List ℕ) (from index number : ℕ) → IsNonDecreasing numbers →
-    index < length numbers → ((d : ℕ) → get_or numbers index d ≡ number) → AreFreeButLeft slots numbers from index →
-    (k : ℕ) → from ≤ k → k < number → get_or slots k None ≡ None
-free_up_to slots numbers from index number rising within at so_far = grind arith
-
--- this one is filled
-pub next_is : {X : Type 0} (slots : List (Option X)) (numbers : List ℕ) (from index number : ℕ) → IsNonDecreasing numbers →
-    index < length numbers → ((d : ℕ) → get_or numbers index d ≡ number) → from ≤ number → is_some (get_or slots number None) ≡ true →
-    AreFreeButLeft slots numbers from index → IsNextFilled slots from number
-next_is slots numbers from index number rising within at le filled so_far = grind (arith, free_up_to)
-
--- none is left
-pub none_left : {X : Type 0} (slots : List (Option X)) (numbers : List ℕ) (from index : ℕ) → length numbers ≤ index →
-    AreFreeButLeft slots numbers from index → AreFreeFrom slots from
-none_left slots numbers from index past so_far = λ n le. so_far n le (λ j d ge lt e. absurd (omega (arith, past, ge, lt)))
+-- the first number that is not below another one
+pub first_listed : {X : Type 0} (slots : List (Option X)) (numbers : List ℕ) (from start : ℕ) → AreListed slots numbers →
+    IsStrictlyIncreasing numbers → ((j d : ℕ) → j < start → j < length numbers → get_or numbers j d < from) →
+    ((j d : ℕ) → start ≤ j → j < length numbers → from ≤ get_or numbers j d) →
+    MatchOption (slice_get numbers start) (AreFreeFrom slots from) (IsNextFilled slots from)
+first_listed slots numbers from start listed rising below above = ⊎_elim
+    (λ here. subst (λ o. MatchOption o (AreFreeFrom slots from) (IsNextFilled slots from)) (sym here.2) (record {
+      reached = omega (arith, here.3, above start here.0 (omega arith) here.1);
+      filled = subst (λ n. is_some (get_or slots n None) ≡ true) here.3
+          (All-get_or (λ n. is_some (get_or slots n None) ≡ true) numbers start here.0 here.1 listed.filled);
+      free = λ n le lt. free_between slots numbers from start n listed below
+          (λ j d ge within. omega (
+            arith,
+            lt,
+            here.3,
+            get_or_default numbers start here.0 d here.1,
+            non_decreasing_from_sorted numbers (sorted_from_strictly_increasing numbers rising) start j d ge within,
+          )) le;
+    }))
+    (λ past. subst (λ o. MatchOption o (AreFreeFrom slots from) (IsNextFilled slots from)) (sym past.1)
+    (λ n le. free_between slots numbers from start n listed below (λ j d ge lt. absurd (omega (arith, past.0, ge, lt))) le))
+    (slice_get_cases numbers start).1
 
 pub seen_match : {X Y : Type 0} (f : X → Y) (slots slots' : List (Option X)) (from : ℕ) (found : Option ℕ) → slots' ≡ slots →
     MatchOption found (AreFreeFrom slots' from) (IsNextFilled slots' from) →
     MatchOption found (AreFreeFrom (map (λ o. option_map f o) slots) from) (IsNextFilled (map (λ o. option_map f o) slots) from)
 seen_match f slots slots' from found same free = grind (arith, mapped_at, is_some_map)
 
-pub rising_nothing : (numbers : List ℕ) → numbers ≡ [] → IsNonDecreasing numbers
-rising_nothing numbers none = subst IsNonDecreasing (sym none) (λ i j d le lt. absurd (omega arith))
+pub rising_nothing : (numbers : List ℕ) → numbers ≡ [] → IsStrictlyIncreasing numbers
+rising_nothing numbers none = subst IsStrictlyIncreasing (sym none) (λ k lt. absurd (omega (arith, lt)))
 
 -- numbers that are put in order list the same slots
 pub listed_permuted : {X : Type 0} (slots : List (Option X)) (numbers sorted : List ℕ) → IsPermutation numbers sorted → AreListed slots numbers →
     AreListed slots sorted
 listed_permuted slots numbers sorted same listed = record {
-  below = All-permutation (λ n. n < length slots) numbers sorted same listed.below;
+  filled = All-permutation (λ n. is_some (get_or slots n None) ≡ true) numbers sorted same listed.filled;
+  distinct = IsDistinct-IsPermutation nat_eq nat_eq_equiv.symm numbers sorted same listed.distinct;
   others = λ a none. listed.others a (list_any-IsPermutation (nat_eq a) numbers sorted same ∙ none);
 }
-
--- from a later number on, a slot is free if its number isn't left but for this one, which is before
-pub free_on : {X : Type 0} (slots : List (Option X)) (numbers : List ℕ) (from after index number : ℕ) → ((d : ℕ) → get_or numbers index d ≡ number) →
-    from ≤ after → number < after → AreFreeButLeft slots numbers from index → AreFreeButLeft slots numbers after (index + 1)
-free_on slots numbers from after index number at le lt so_far = grind (arith, cases_eq, cases_lt)

@@ -1,19 +1,22 @@
 -- What is left to fill, and slots over what is stored.
-use Rattle.std.proofs.Common.{◌≡◌, ℕ, suc, ◌+◌, ◌-◌, ◌<◌, ◌≤◌, Bool, true, false, ◌&&◌, ◌||◌, cond, nat_eq, List, [], ◌∷◌, ◌++◌, length}
+use Rattle.std.proofs.Common.{◌≡◌, ℕ, suc, ◌+◌, ◌-◌, ◌<◌, ◌≤◌, Bool, true, false, ◌&&◌, cond, nat_eq, List, [], ◌∷◌, ◌++◌, length}
 use Rattle.std.proofs.Common.{get_or, set, take, map, Option, Some, None, is_some, option_map, MatchOption, refl, sym, ap, ◌∙◌, arith, Result}
 use Rattle.std.proofs.Common.{zero-add, length-take, drop, replicate, length-append}
 use Rattle.std.specs.Bool.{⊤}
-use Rattle.std.specs.List.{list_all, list_any}
+use Rattle.std.specs.List.{IsDistinct, list_all, list_any}
 use Rattle.std.specs.Result.{OnErr, OnOk}
 use mir.Val.{bool_byte}
 use Rattle.std.proofs.lemmas.List.{drop_all, drop_more, get_or-replicate, get_or-set_other}
-use Rattle.std.proofs.lemmas.List.{get_or-set_same, get_or-take, length-map, length-replicate, length-set}
-use Rattle.std.proofs.lemmas.List.{get_or_append_left, get_or-append_right}
-use Rattle.std.proofs.lemmas.Bool.{cases_lt}
+use Rattle.std.proofs.lemmas.List.{get_or-set_same, get_or-take, length-map, length-replicate}
+use Rattle.std.proofs.lemmas.List.{get_or_append_left, get_or-append_right, get_or_past}
+use Rattle.std.proofs.lemmas.Bool.{cases_eq, cases_lt}
+use Rattle.std.proofs.lemmas.Bool.Decides.{nat_tests}
 use Rattle.std.proofs.lemmas.List.{ext_get_or, take_more, map-set}
-use Rattle.std.proofs.lemmas.List.Elements.{All-set, All-weaker, All-head, All-tail, All-same, All-map, All-nil, All-push}
-use Rattle.std.proofs.lemmas.List.Folds.{list_all-map, list_any-append}
+use Rattle.std.proofs.lemmas.List.Elements.{All-set, All-weaker, All-get_or, All-head, All-tail, All-same, All-map, All-nil, All-push}
+use Rattle.std.proofs.lemmas.List.Folds.{list_all-map, list_any-append, list_any_none}
 use mathlib.Core.List.{map-map}
+use Rattle.std.specs.Cmp.{nat_eq_equiv}
+use Rattle.std.proofs.lemmas.Map.Keys.{IsDistinct-from_apart, IsDistinct-push}
 use Rattle.attr_search.specs.shared.SlotContents.{AreListed, count_remaining, remaining_at, wanted_numbers}
 use Rattle.attr_search.specs.inner.AnswerRefs.{IsMatchRef, AreMatchRefs, match_by_ref, matches_by_ref}
 use Rattle.attr_search.specs.Slots.{Matched, slots_of}
@@ -170,25 +173,52 @@ pub all_emptied : {X Y : Type 0} (slots : List (Option X)) (old : List Y) (numbe
     length numbers ≤ i → OthersEmpty slots (drop i numbers) → slots ≡ map (λ y. None) old
 all_emptied slots old numbers i same le others = grind (arith, all_empty, drop_all)
 
+-- no numbers are distinct
+pub distinct_none : (numbers : List ℕ) → numbers ≡ [] → IsDistinct nat_eq numbers
+distinct_none numbers none = rw none (IsDistinct-from_apart nat_eq [] (λ i j d lt within. absurd (omega (arith, within))))
+
 -- empty slots need no number
 pub empty_listed : {X Y : Type 0} (slots : List (Option X)) (xs : List Y) → slots ≡ map (λ x. None) xs → AreListed slots []
-empty_listed {X} slots xs e = record { below = All-nil (λ n. n < length slots); others = λ a none. ap (λ l. get_or l a None) e ∙ none_at X xs a }
+empty_listed {X} slots xs e = record {
+  filled = All-nil (λ n. is_some (get_or slots n None) ≡ true);
+  distinct = distinct_none [] refl;
+  others = λ a none. ap (λ l. get_or l a None) e ∙ none_at X xs a;
+}
 
--- one more number is listed
-pub listed_more : {X : Type 0} (slots : List (Option X)) (numbers : List ℕ) (number : ℕ) → number < length slots → AreListed slots numbers →
-    AreListed slots (numbers ++ number ∷ [])
-listed_more slots numbers number below listed = record {
-  below = All-push (λ n. n < length slots) numbers number listed.below below;
-  others = λ a none. listed.others a (first (list_any (nat_eq a) numbers) _ (sym (list_any-append (nat_eq a) numbers (number ∷ [])) ∙ none));
+-- a slot that was free is filled, and its number listed
+pub listed_more : {X : Type 0} (slots : List (Option X)) (numbers : List ℕ) (number : ℕ) (x : X) → number < length slots →
+    is_some (get_or slots number None) ≡ false → AreListed slots numbers → AreListed (set slots number (Some x)) (numbers ++ number ∷ [])
+listed_more slots numbers number x within free listed = record {
+  filled = All-push Filled numbers number (All-weaker (λ n. is_some (get_or slots n None) ≡ true) Filled kept numbers listed.filled) own;
+  distinct = IsDistinct-push nat_eq_equiv numbers number listed.distinct new;
+  others = λ a none. other a none;
 }
   where
-    first : (b c : Bool) → b || c ≡ false → b ≡ false
-    first b c e = grind arith
+    Filled : ℕ → Type 0
+    Filled n = is_some (get_or (set slots number (Some x)) n None) ≡ true
 
--- the slot of a listed number is filled
-pub listed_filled : {X : Type 0} (slots : List (Option X)) (numbers : List ℕ) (number : ℕ) (o : Option X) →
-    AreListed slots (numbers ++ number ∷ []) → AreListed (set slots number o) (numbers ++ number ∷ [])
-listed_filled slots numbers number o listed = grind (arith, All-weaker, length-set, get_or-set_other, list_any-append)
+    own : Filled number
+    own = ap is_some (get_or-set_same slots number (Some x) None within)
+
+    kept : (n : ℕ) → is_some (get_or slots n None) ≡ true → Filled n
+    kept n filled = grind (arith, cases_eq, get_or-set_same, get_or-set_other)
+
+    unlike : (n : ℕ) → is_some (get_or slots n None) ≡ true → nat_eq number n ≡ false
+    unlike n filled = grind (arith, nat_tests, cases_eq)
+
+    new : list_any (nat_eq number) numbers ≡ false
+    new = list_any_none (nat_eq number) numbers
+        (All-weaker (λ n. is_some (get_or slots n None) ≡ true) (λ n. nat_eq number n ≡ false) unlike numbers listed.filled)
+
+    other : (a : ℕ) → list_any (nat_eq a) (numbers ++ number ∷ []) ≡ false → get_or (set slots number (Some x)) a None ≡ None
+    other a none = grind (arith, list_any-append, get_or-set_other)
+
+-- a listed number is that of a slot
+pub listed_within : {X : Type 0} (slots : List (Option X)) (numbers : List ℕ) (index : ℕ) → AreListed slots numbers → index < length numbers →
+    get_or numbers index 0 < length slots
+listed_within slots numbers index listed within =
+    let filled = All-get_or (λ n. is_some (get_or slots n None) ≡ true) numbers index 0 within listed.filled in
+    grind (arith, get_or_past, cases_lt)
 
 -- slots that were emptied are as many as flags when they are resized
 pub empty_resized : {X Y : Type 0} (old : List Y) (emptied resized : List (Option X)) (n count : ℕ) (flags : List Bool) →

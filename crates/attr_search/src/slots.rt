@@ -5,7 +5,7 @@ ghost use Rattle.std.specs.Prelude.{◌≡◌, Bool, List, ◌<◌, ◌≤◌, �
 ghost use Rattle.attr_table.specs.Cut.{is_done};
 ghost use Rattle.attr_search.specs.Matches.{match_view};
 ghost use Rattle.attr_search.specs.Settings.{HaveSlots};
-ghost use Rattle.std.specs.List.Sorted.{IsNonDecreasing};
+ghost use Rattle.std.specs.List.Sorted.{IsStrictlyIncreasing};
 ghost use Rattle.std.specs.Option.{option_copied};
 ghost use Rattle.std.specs.Vec.{vec_capacity};
 ghost use Rattle.attr_search.specs.Slots.{AreFreeFrom, IsNextFilled, slots_of};
@@ -33,7 +33,7 @@ use std::rc::Rc;
 #[derive(Drop)]
 pub struct AnswerSlots {
     slots: Vec<Option<MatchRef>>,
-    // The numbers of the slots that may be filled: the others are free.
+    // The numbers of the slots that have an answer.
     filled: Vec<usize>,
     // Whether these numbers are in their order.
     is_ordered: bool,
@@ -71,6 +71,7 @@ impl Model for AnswerSlots {
 
 impl AnswerSlots {
     /// No slots. It takes no memory.
+    #[tactic(auto, using(crate::proofs::SlotLemmas::distinct_none))]
     pub fn new(alloc: Global) -> AnswerSlots
         ensures { result ≡ empty_slots [] [] [] }
     {
@@ -295,17 +296,17 @@ impl AnswerSlots {
         ensures { MatchOption result
             (AreFreeFrom self.now.answers from) (IsNextFilled self.now.answers from) }
     {
-        if self.is_ordered {
-            next_listed(&self.slots, &self.filled, from)
-        } else {
-            next_slot(&self.slots, from)
+        if !self.is_ordered {
+            return next_slot(&self.slots, from);
         }
+        let start = self.filled.partition_point(|number| *number < from);
+        self.filled.get(start).copied()
     }
 
-    /// The numbers of the slots that may have an answer, if they are in their order, as after a search for all attributes.
+    /// The numbers of the slots that have an answer, if they are in their order, as after a search for all attributes.
     pub fn listed(&self) -> Option<&[usize]>
         ensures listed { IfSome result (λ numbers. AreListed self.now.answers numbers.now) }
-        ensures ordered { IfSome result (λ numbers. IsNonDecreasing numbers.now) }
+        ensures ordered { IfSome result (λ numbers. IsStrictlyIncreasing numbers.now) }
     {
         if self.is_ordered {
             Some(&self.filled)
@@ -374,22 +375,6 @@ fn is_remaining(wanted: bool, slot: Option<MatchRef>) -> bool
     ensures { result ≡ wanted && is_none slot }
 {
     wanted && slot.is_none()
-}
-
-// The first of the numbers from this one on whose slot is filled. The slots of other numbers are free.
-fn next_listed(slots: &[Option<MatchRef>], numbers: &[usize], from: usize) -> Option<usize>
-    requires listed { AreListed slots.now numbers.now }
-    requires ordered { IsNonDecreasing numbers.now }
-    ensures { MatchOption result (AreFreeFrom slots.now from) (IsNextFilled slots.now from) }
-{
-    let start = numbers.partition_point(|number| *number < from);
-    for index in start..numbers.len() {
-        let number = numbers[index];
-        if slots[number].is_some() {
-            return Some(number);
-        }
-    }
-    None
 }
 
 // The first number from this one on whose slot is filled.

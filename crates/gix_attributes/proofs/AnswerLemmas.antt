@@ -1,14 +1,20 @@
 -- The answers of an engine after a search: those of the only stable table, and where they are.
 use Rattle.std.proofs.lemmas.Grind.{common_steps}
+use Rattle.std.proofs.lemmas.Bool.{cases_lt}
 use Rattle.std.proofs.lemmas.Bool.Decides.{nat_tests}
 use Rattle.std.proofs.Common.{◌≡◌, ℕ, ◌++◌, ◌-◌, append_assoc, ◌+◌, ◌<◌, ◌≤◌, Bool, true, false, List, [], ◌∷◌, length, drop, map, Option}
-use Rattle.std.proofs.Common.{Some, None, Result, OnOk, OnErr}
+use Rattle.std.proofs.Common.{All, Some, None, Result, OnOk, OnErr, filter, nat_eq, suc, take, is_some}
 use Rattle.std.proofs.Common.{⊎_elim, MatchOption, option_map, slice_get, get_or, refl, sym, ap, ◌∙◌, arith, subst, eqb-true}
 use Rattle.std.specs.Prelude.{◌==◌, ⊤, bytes_eq, if◌then◌else◌, option_and_then, unwrap_or}
 use Rattle.std.specs.List.{IsDistinct}
-use Rattle.std.proofs.lemmas.List.{append-nil, length-map, map-append, drop_more}
-use Rattle.std.specs.List.Sorted.{IsNonDecreasing}
-use Rattle.attr_search.proofs.ForCallers.{AreFreeButLeft, none_left as none_listed}
+use Rattle.std.proofs.lemmas.List.{append-nil, drop_more, get_or_past, length-map, map-append, take_more}
+use Rattle.std.specs.List.{list_any}
+use Rattle.std.specs.List.Sorted.{IsStrictlyIncreasing, IsStrictlySortedBy}
+use Rattle.std.specs.Ordering.{nat_cmp}
+use Rattle.std.proofs.lemmas.List.Elements.{All-cons, All-tail, All-weaker, filter-append}
+use Rattle.std.proofs.lemmas.List.Folds.{list_any_none}
+use Rattle.std.proofs.lemmas.Map.Keys.{below_from_sorted, sorted_from_strictly_increasing}
+use Rattle.attr_search.specs.shared.SlotContents.{AreListed}
 use Rattle.std.proofs.lemmas.Option.{get_or_from_slice_get, slice_get_cases, slice_get_within, slice_get-map}
 use Rattle.attr_lists.specs.Collections.{Collection}
 use Rattle.gix_attributes.specs.Contents.{Content, Wanted, found_in, looked_up, names_selected, selected_in, bodies_of, wanted_of}
@@ -188,14 +194,44 @@ pub numbered_more : (slots : List (Option Matched)) (before after : List ℕ) (n
     map (λ n. get_or slots n None) after ++ left_from slots (number + 1) ≡ left_from slots 0
 numbered_more slots before after number lt e so_far = grind (arith, common_steps, map-append, append_assoc, left_more)
 
--- nothing is left before the number that is listed next
-pub left_at : (slots : List (Option Matched)) (listed : List ℕ) (from index number : ℕ) → IsNonDecreasing listed → index < length listed →
-    ((d : ℕ) → get_or listed index d ≡ number) → from ≤ number → number < length slots → AreFreeButLeft slots listed from index →
-    left_from slots from ≡ left_from slots number
-left_at slots listed from index number rising within at le lt free = grind (arith, nat_tests, found_over slots from number (number - from))
+-- one more number that is listed is looked at
+pub listed_next : (test : ℕ → Bool) (listed before after : List ℕ) (index : ℕ) → index < length listed → before ≡ filter test (take index listed) →
+    after ≡ (if test (get_or listed index 0) then before ++ get_or listed index 0 ∷ [] else before) → after ≡ filter test (take (index + 1) listed)
+listed_next test listed before after index lt so_far one =
+    let more = ap (filter test) (take_more listed index 0 lt) ∙ filter-append test (take index listed) (get_or listed index 0 ∷ []) in
+    grind (arith, nat_tests, more, so_far, one, append-nil, if_true, if_false)
 
--- nothing is left once all that is listed was looked at
-pub all_numbered : (slots : List (Option Matched)) (listed numbers : List ℕ) (from index : ℕ) → length listed ≤ index →
-    AreFreeButLeft slots listed from index → map (λ n. get_or slots n None) numbers ++ left_from slots from ≡ left_from slots 0 →
-    AreNumbersOf slots (specified_among (found_in slots)) numbers
-all_numbered slots listed numbers from index past free so_far = grind (arith, nat_tests, append-nil, nothing_found, none_listed)
+-- a number that is below each of others is none of them
+unlisted : (a : ℕ) (numbers : List ℕ) → All (λ n. a < n) numbers → list_any (nat_eq a) numbers ≡ false
+unlisted a numbers above =
+    list_any_none (nat_eq a) numbers
+    (All-weaker (λ n. a < n) (λ n. nat_eq a n ≡ false) (λ n less. grind (arith, nat_tests)) numbers above)
+
+-- the numbers of the filled slots from one on, in their order, lead to what is left from there on
+left_listed : (slots : List (Option Matched)) (from : ℕ) (numbers : List ℕ) → IsStrictlySortedBy nat_cmp numbers → All (λ n. from ≤ n) numbers →
+    All (λ n. n < length slots) numbers →
+    ((a : ℕ) → from ≤ a → list_any (nat_eq a) numbers ≡ false → get_or slots a None ≡ None) →
+    map (λ n. get_or slots n None) (filter (λ n. is_slot_specified (get_or slots n None)) numbers) ≡ left_from slots from
+unfolding IsStrictlySortedBy
+left_listed slots from [] rising above within free =
+    sym (ap (λ found. map Some (specified_among found)) (nothing_found slots from (λ a le. free a le refl)))
+left_listed slots from (n ∷ numbers) rising above within free =
+    let later : All (λ m. n < m) numbers = λ k d lt. below_from_sorted (n ∷ numbers) 0 (suc k) d rising (omega arith) (omega (arith, lt)) in
+    let start : from ≤ n = above 0 n (omega arith) in
+    let inside : n < length slots = within 0 n (omega arith) in
+    let over : left_from slots from ≡ left_from slots n =
+    ap (λ found. map Some (specified_among found)) (found_over slots from n (n - from) (omega (arith, start)) (omega (arith, inside))
+    (λ a le lt. free a le (unlisted a (n ∷ numbers)
+    (All-cons (λ m. a < m) n numbers lt (λ k d l. omega (arith, later k d l, lt)))))) in
+    let rest = left_listed slots (n + 1) numbers rising.1 (λ k d lt. omega (arith, later k d lt)) (All-tail (λ m. m < length slots) n numbers within)
+    (λ a le none. free a (omega (arith, le, start)) (grind (arith, nat_tests, le, none))) in
+    let more = left_more slots n (get_or slots n None) inside refl in
+    grind (arith, nat_tests, over, rest, more, if_true, if_false)
+
+-- the numbers that are listed of specified answers are those of all of them
+pub listed_numbered : (slots : List (Option Matched)) (listed : List ℕ) → AreListed slots listed → IsStrictlyIncreasing listed →
+    AreNumbersOf slots (specified_among (found_in slots)) (filter (λ n. is_slot_specified (get_or slots n None)) listed)
+listed_numbered slots listed are rising =
+    left_listed slots 0 listed (sorted_from_strictly_increasing listed rising) (λ k d lt. omega arith)
+    (λ k d lt. let filled = are.filled k d lt in grind (arith, get_or_past, cases_lt, is_some))
+    (λ a le none. are.others a none)

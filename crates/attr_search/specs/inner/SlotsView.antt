@@ -2,7 +2,7 @@
 -- bodies fit (own).
 use Rattle.std.specs.Prelude.{◌≡◌, ℕ, ◌≤◌, ◌+◌, ◌&&◌, Bool, true, false, List, length, All, Option, None, is_none}
 use Rattle.std.specs.Prelude.{◌-◌, slice_index_or}
-use Rattle.std.specs.List.Sorted.{IsNonDecreasing}
+use Rattle.std.specs.List.Sorted.{IsStrictlyIncreasing}
 use Rattle.attr_search.specs.SearchContents.{SearchContents}
 use Rattle.attr_search.specs.shared.SlotContents.{AreFlagsAmong, AreListed, count_remaining}
 use Rattle.attr_lists.specs.declared.types.TrackedAssignment.{TrackedAssignment}
@@ -56,4 +56,4 @@ pub record AreSoundSlots (b : Inside) : Type 0 where
   pub counted : b.remaining ≡ count_remaining b.wanted b.slots.items
   pub listed : AreListed b.slots.items b.filled.items
   pub before : b.filled_before ≤ length b.filled.items
-  pub ordered : b.is_ordered ≡ true → IsNonDecreasing b.filled.items
+  pub ordered : b.is_ordered ≡ true → IsStrictlyIncreasing b.filled.items

@@ -1,6 +1,6 @@
 -- Slots that are empty, open, wanted or listed (own).
-use Rattle.std.specs.Prelude.{◌≡◌, ℕ, suc, ◌+◌, ◌<◌, nat_eq, Bool, true, false, cond, List, [], ◌∷◌, length, map, sum_by, slice_index_or, All, Option, None, is_none, ◌&&◌}
-use Rattle.std.specs.List.{list_any}
+use Rattle.std.specs.Prelude.{◌≡◌, ℕ, suc, ◌+◌, nat_eq, Bool, true, false, cond, List, [], ◌∷◌, map, sum_by, slice_index_or, All, Option, None, is_none, is_some, ◌&&◌}
+use Rattle.std.specs.List.{IsDistinct, list_any}
 use Rattle.attr_lists.specs.declared.types.TrackedAssignment.{TrackedAssignment}
 use Rattle.attr_table.specs.Skipped.{narrowed}
 use Rattle.attr_table.specs.Table.{Slots}
@@ -47,7 +47,8 @@ count_remaining [] slots = 0
 count_remaining (wanted ∷ flags) [] = 0
 count_remaining (wanted ∷ flags) (slot ∷ slots) = remaining_at wanted slot + count_remaining flags slots
 
--- the numbers are those of slots, and each slot of another number is empty
+-- the numbers are those of the slots that are filled, each once
 pub record AreListed {X : Type 0} (slots : List (Option X)) (numbers : List ℕ) : Type 0 where
-  pub below : All (λ number. number < length slots) numbers
+  pub filled : All (λ number. is_some (slice_index_or slots number None) ≡ true) numbers
+  pub distinct : IsDistinct nat_eq numbers
   pub others : (a : ℕ) → list_any (nat_eq a) numbers ≡ false → slice_index_or slots a None ≡ None

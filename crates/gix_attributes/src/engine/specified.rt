@@ -1,7 +1,7 @@
 //! The numbers of the answers without a selection.
 
 ghost use Rattle.std.specs.Prelude.{◌≡◌, ◌++◌, ◌∷◌, [], None, OnOk, slice_index_or, if◌then◌else◌};
-ghost use Rattle.std.specs.List.Sorted.{IsNonDecreasing};
+ghost use Rattle.std.specs.List.Sorted.{IsStrictlyIncreasing};
 ghost use Rattle.attr_search.specs.shared.SlotContents.{AreListed};
 ghost use Rattle.gix_attributes.specs.Contents.{found_in};
 ghost use Rattle.gix_attributes.specs.EngineStates.{specified_among};
@@ -24,28 +24,20 @@ pub(crate) fn number_answers(outcome: &Outcome, numbers: &mut Vec<usize>) -> Res
     }
 }
 
-// The numbers among those of slots that may have an answer, which are in their order.
+// The numbers among those of slots that have an answer, which are in their order.
 fn number_listed(
     outcome: &Outcome,
     listed: &[usize],
     numbers: &mut Vec<usize>,
 ) -> Result<(), AllocError>
     requires listed { AreListed outcome.now.slots listed.now }
-    requires ordered { IsNonDecreasing listed.now }
+    requires ordered { IsStrictlyIncreasing listed.now }
     requires none { numbers.old.items ≡ [] }
     ensures { OnOk result (AreNumbersOf
         outcome.now.slots (specified_among (found_in outcome.now.slots)) numbers.new.items) }
 {
-    let mut from = 0;
     for number in listed {
-        // A number may be there again.
-        if *number >= from {
-            push_specified(outcome, *number, numbers)?;
-
-            // Slots can be counted.
-            prove!(*number < outcome.len());
-            from = *number + 1;
-        }
+        push_specified(outcome, *number, numbers)?;
     }
     Ok(())
 }

@@ -1,11 +1,13 @@
 use Rattle.std.proofs.Common.{arith}
 use Rattle.std.proofs.lemmas.List.{length-set}
-use Rattle.attr_search.proofs.SlotLemmas.{all_emptied, none_at, one_emptied}
+use Rattle.attr_search.proofs.SlotLemmas.{all_emptied, listed_within, none_at, one_emptied}
 use Rattle.attr_search.proofs.OpenLemmas.{all_open, open_emptied}
 use Rattle.attr_search.proofs.slots.empty.Goals as goal
 
 pub loop-number-preserved : goal.loop-number-preserved
-loop-number-preserved c = grind (arith, length-set, one_emptied, open_emptied)
+loop-number-preserved c =
+    let within = listed_within c.args.slots.now.items c.args.numbers.now c.loop-number.number-index c.requires.listed c.loop-number-test.true in
+    grind (arith, length-set, one_emptied, open_emptied, within)
 
 pub returns-clause-items : goal.returns-clause-items
 returns-clause-items c =

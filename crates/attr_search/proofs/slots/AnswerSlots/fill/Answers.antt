@@ -8,7 +8,7 @@ use Rattle.attr_search.specs.shared.SlotContents.{open_slots}
 use Rattle.attr_search.specs.inner.PartsView.{origin_of_line, parts_view}
 use Rattle.attr_search.proofs.PartLemmas.{answer_kept, grows_same, last_kept}
 use Rattle.attr_search.proofs.OpenLemmas.{open_filled, open_free, open_needed}
-use Rattle.attr_search.proofs.SlotLemmas.{listed_filled, listed_more, fill_counts, slots_filled, matches_filled, seen_filled}
+use Rattle.attr_search.proofs.SlotLemmas.{listed_more, fill_counts, slots_filled, matches_filled, seen_filled}
 use Rattle.std.proofs.lemmas.Bool.{false≢true}
 use Rattle.attr_search.proofs.slots.AnswerSlots.fill.Goals as goal
 
@@ -54,8 +54,7 @@ invariant_of-self-2 c =
       within = slots_filled (kept_parts b) (parts_view b.lines.items c.keep_item.new.items.items b.bodies.items) b.slots.items number found
           (record { lines = grows_same _; items = c.in_ok-index.ensures.kept.grows; bodies = refl }) c.self.invariant.within answer.0;
       counted = grind (arith, fill_counts);
-      listed = rw pushed (listed_filled b.slots.items b.filled.items number (Some found)
-          (listed_more b.slots.items b.filled.items number within c.self.invariant.listed));
+      listed = rw pushed (listed_more b.slots.items b.filled.items number found within free c.self.invariant.listed);
       before = grind (arith, length-append);
       ordered = λ t. absurd (false≢true t);
     }
