@@ -172,28 +172,14 @@ impl SearchState {
     {
         let searched = match lists.few() {
             Some(numbers) => self.search_numbers(alloc, &lists.lists, numbers, query),
-            None => self.search_found(alloc, lists, query),
+            None => {
+                let numbers = self.buffers.find_lists(alloc, lists, query)?;
+                let searched = self.search_numbers(alloc, &lists.lists, &numbers, query);
+                self.buffers.numbers = numbers;
+                searched
+            }
         };
         self.slots.order();
-        searched
-    }
-
-    // The same for many lists, of which those that apply to the path are found.
-    fn search_found(
-        &mut self,
-        alloc: Global,
-        lists: &IndexedLists,
-        query: PathQuery<'_>,
-    ) -> Result<(), AllocError>
-        requires in_lists { ListsHaveSlots (length self.old.slots.answers)
-            (lists_view lists.now.lists.items) }
-        ensures { SearchesPart result
-            (SearchedLists query.entry (lists_view lists.now.lists.items))
-            self.old.slots self.new.slots }
-    {
-        let numbers = self.buffers.find_lists(alloc, lists, query)?;
-        let searched = self.search_numbers(alloc, &lists.lists, &numbers, query);
-        self.buffers.numbers = numbers;
         searched
     }
 

@@ -46,19 +46,6 @@ impl SelectedName {
         })
     }
 
-    /// The same name with another number. It takes no memory.
-    ///
-    /// # Errors
-    ///
-    /// If there are `usize::MAX` copies of the name.
-    pub(crate) fn numbered(&self, number: Option<usize>) -> Result<SelectedName, AllocError>
-        ensures name { IfOk result (λ selected.
-            rc_str_bytes selected.name ≡ rc_str_bytes self.now.name) }
-        ensures number { IfOk result (λ selected. selected.number ≡ number) }
-    {
-        SelectedName::new(self.name.clone()?, number)
-    }
-
     /// The name by which it is reported if no line assigns it: `invalid` if it is no valid name.
     pub(crate) fn reported(&self) -> NameRef<'_>
         ensures { name_text result ≡ reported_name (rc_str_bytes self.now.name) }

@@ -47,7 +47,7 @@ pub(crate) fn look_up_again(
     let mut again = Vec::new(alloc);
     for wanted in selected {
         let number = collection.number_of(wanted.name.as_str());
-        again.push(wanted.numbered(number)?)?;
+        again.push(SelectedName::new(wanted.name.clone()?, number)?)?;
     }
     Ok(again)
 }
@@ -61,7 +61,7 @@ pub(crate) fn copy_of(
 {
     let mut copy = Vec::new(alloc);
     for wanted in selected {
-        copy.push(wanted.numbered(wanted.number)?)?;
+        copy.push(SelectedName::new(wanted.name.clone()?, wanted.number)?)?;
     }
     Ok(copy)
 }
