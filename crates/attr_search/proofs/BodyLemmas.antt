@@ -1,6 +1,6 @@
 -- How bodies grow and change.
 use Rattle.std.proofs.Common.{◌≡◌, ℕ, ◌+◌, ◌-◌, ◌<◌, List, [], ◌∷◌, ◌++◌, length, length-take, set, take, replicate, All, None, append_assoc}
-use Rattle.std.proofs.Common.{ap, length-append, refl, sym, arith}
+use Rattle.std.proofs.Common.{length-append, refl, sym, arith}
 use Rattle.std.proofs.lemmas.List.{length-replicate, take-map, length-map, length-set, map_push, map-set, replicate_more, take-append-le}
 use Rattle.std.proofs.lemmas.List.Elements.{All-same, All-tail}
 use Rattle.attr_lists.specs.declared.types.TrackedAssignment.{TrackedAssignment}
@@ -32,13 +32,11 @@ change_below left rest change bodies e below =
 -- bodies that were grown are cut to a count
 pub length_grown : (old grown cut : List SharedBody) (count : ℕ) →
     bodies_view grown ≡ bodies_view old ++ replicate (count - length old) [] → cut ≡ take count grown → length cut ≡ count
-length_grown old grown cut count grows is =
-    let many = ap length grows in grind (arith, many, length-map, length-append, length-replicate, length-take)
+length_grown old grown cut count grows is = grind (arith, length-map, length-append, length-replicate, length-take)
 
 -- and to as many as wanted
-pub cut_sized : (old grown cut : List SharedBody) (bodies : List (List TrackedAssignment)) (count n : ℕ) → count ≡ n →
-    bodies_view old ≡ bodies → bodies_view grown ≡ bodies_view old ++ replicate (count - length old) [] → cut ≡ take count grown →
-    bodies_view cut ≡ sized_bodies n bodies
+pub cut_sized : (old grown cut : List SharedBody) (bodies : List (List TrackedAssignment)) (count n : ℕ) → count ≡ n → bodies_view old ≡ bodies →
+    bodies_view grown ≡ bodies_view old ++ replicate (count - length old) [] → cut ≡ take count grown → bodies_view cut ≡ sized_bodies n bodies
 cut_sized old grown cut bodies count n counted same grows is = grind (arith, length-map, take-map)
 
 pub length_sized : (count : ℕ) (bodies : List (List TrackedAssignment)) → length (sized_bodies count bodies) ≡ count

@@ -57,9 +57,8 @@ passed_by case is_dir rest test takes None r known out =
     (λ t. grind (arith, not_macro))
     (λ f. f)
 
-passed_at : (case : Case) (is_dir : Option Bool) (rest : List ℕ) (test : Reading → Bool) → TakesMatching case rest test →
-    (lines : List Entry) → ∥ AreRead lines ∥₁ →
-    (k : ℕ) (d : Entry) → k < length lines → test (get_or lines k d).pattern ≡ false →
+passed_at : (case : Case) (is_dir : Option Bool) (rest : List ℕ) (test : Reading → Bool) → TakesMatching case rest test → (lines : List Entry) →
+    ∥ AreRead lines ∥₁ → (k : ℕ) (d : Entry) → k < length lines → test (get_or lines k d).pattern ≡ false →
     gives case is_dir (Some rest) (get_or lines k d) ≡ false
 passed_at case is_dir rest test takes lines read k d lt out =
     ∥∥₁_elim read (Bool-set (gives case is_dir (Some rest) (get_or lines k d)) false)
@@ -85,9 +84,8 @@ pub turned_at : {X : Type 0} (xs : List X) (k : ℕ) (d : X) → k < length (rev
 turned_at xs k d lt = grind (arith, length-reverse, get_or-reverse)
 
 pub passed_entry : (case : Case) (is_dir : Option Bool) (source : Option (List ℕ)) (rest : List ℕ) (test : Reading → Bool) →
-    TakesMatching case rest test → (lines : List Entry) → ∥ AreRead lines ∥₁ →
-    (k : ℕ) → k < length (reverse lines) → test (get_or (reverse lines) k no_entry).pattern ≡ false →
-    entry_tasks case is_dir source rest (get_or (reverse lines) k no_entry) ≡ []
+    TakesMatching case rest test → (lines : List Entry) → ∥ AreRead lines ∥₁ → (k : ℕ) → k < length (reverse lines) →
+    test (get_or (reverse lines) k no_entry).pattern ≡ false → entry_tasks case is_dir source rest (get_or (reverse lines) k no_entry) ≡ []
 passed_entry case is_dir source rest test takes lines read k lt out =
     let long = length-reverse lines in
     let within : k < length lines = omega arith in

@@ -1,14 +1,15 @@
 -- The lists that apply to a path are found by the keys of its directories.
-use Rattle.std.proofs.Common.{◌≡◌, ◌≢◌, map, ℕ, zero, suc, ◌+◌, ◌-◌, ◌<◌, ◌≤◌, inl, inr, false, List, [], ◌∷◌, ◌++◌, length}
-use Rattle.std.proofs.Common.{take, drop, min, Option, Some, None, refl, sym, ap, subst, ◌∙◌, arith}
+use Rattle.std.proofs.Common.{◌≡◌, ◌≢◌, map, ℕ, suc, ◌+◌, ◌-◌, ◌<◌, ◌≤◌, inl, inr, false, List, [], ◌∷◌, ◌++◌, length}
+use Rattle.std.proofs.Common.{get_or, take, drop, min, Option, Some, None, refl, sym, ap, subst, ◌∙◌, arith}
 use Rattle.std.specs.Prelude.{Contains, option_map, slice_get, slice_index}
 use Rattle.std.specs.Char.{is_ascii_uppercase}
-use Rattle.std.specs.List.{list_any}
+use Rattle.std.specs.List.{list_any, range_with_len}
 use Rattle.std.specs.Hash.DefaultHasher as sip
 use Rattle.std.specs.declared.hash.DefaultHasher.{DefaultHasher}
 use Rattle.std.proofs.Math.Seq.{take-add, take-append_seam}
 use Rattle.std.proofs.lemmas.Bool.Decides.{eqb_tells}
 use Rattle.std.proofs.lemmas.List.Elements.{Contains-get_or}
+use Rattle.std.proofs.lemmas.List.FromFn.{get_or-range_with_len}
 use Rattle.std.proofs.lemmas.List.Sorted.{IsNonDecreasingBy-from_default}
 use Rattle.std.proofs.lemmas.List.{get_or-map, get_or-take, length-append, length-map, length-take, map-append, take-map, take-take}
 use Rattle.std.proofs.lemmas.List.Sums.{fold-append}
@@ -25,14 +26,12 @@ use Rattle.attr_wildmatch.specs.declared.case.Case.TheVariants.{Fold}
 use Rattle.attr_search.specs.declared.indexed_list.IndexedList.{IndexedList}
 use Rattle.attr_search.specs.inner.BaseKeys.{base_keys, directory_of, key_in, longest_base}
 use Rattle.attr_search.proofs.KeyedLemmas.{below_or}
-use Rattle.attr_search.specs.inner.Counting.{CountUp}
 use Rattle.attr_search.specs.inner.FoundLists.{AreListsFor}
 use Rattle.attr_wildmatch.specs.Slashes.{ends_in_slash}
 use Rattle.attr_search.specs.inner.DirectoryKeys.{GathersDirectories, HasNumbersOf, Includes, base_directory, keys_of, text_key}
 
 -- what lists have, after one more and after one less
-pub mapped_pushed : {X : Type 0} (f : X → ℕ) (keys : List ℕ) (xs : List X) (x : X) → keys ≡ map f xs →
-    keys ++ f x ∷ [] ≡ map f (xs ++ x ∷ [])
+pub mapped_pushed : {X : Type 0} (f : X → ℕ) (keys : List ℕ) (xs : List X) (x : X) → keys ≡ map f xs → keys ++ f x ∷ [] ≡ map f (xs ++ x ∷ [])
 mapped_pushed f keys xs x is = ap (λ ks. ks ++ f x ∷ []) is ∙ sym (map-append f xs (x ∷ []))
 
 pub mapped_popped : {X : Type 0} (f : X → ℕ) (keys : List ℕ) (all xs : List X) (x : X) → keys ≡ map f all → all ≡ xs ++ x ∷ [] →
@@ -66,10 +65,7 @@ pub hashed_none : (hasher : DefaultHasher) → hasher ≡ sip.initial → hasher
 unfolding sip.write
 hashed_none hasher is = is
 
--- the empty directory, and then one more offset
-pub gathered_none : (keys text found : List ℕ) → HasNumbersOf keys found (text_key []) → GathersDirectories keys text 0 found
-gathered_none keys text found own = record { empty = own; below = λ offset lt. absurd (omega (arith, lt)) }
-
+-- one more offset
 pub gathered_on : (keys text : List ℕ) (k : ℕ) (found more : List ℕ) → GathersDirectories keys text k found → Includes found more →
     HasNumbersOf keys more (text_key (take (k + 1) text)) → GathersDirectories keys text (k + 1) more
 gathered_on keys text k found more gathers kept own = grind (arith, below_or)
@@ -100,13 +96,11 @@ pub record EndsAt (directory text : List ℕ) : Type 0 where
 -- a directory ends in a slash, unless it is the empty one
 no_directory : (base : Option (List ℕ)) (case : Case) →
     slice_index (base_directory base) (length (base_directory base) - 1) ≢ slash → folded case (base_directory base) ≡ []
-no_directory None case other = grind arith
-no_directory (Some base) case other = by_test (ends_in_slash base) (λ t. absurd (grind (arith, t, other))) (λ f. grind (arith, f))
+no_directory base case other = grind (arith, by_test)
 
 -- a base that is a directory, in the front of a path below it
-text_ends : (base : List ℕ) (case : Case) (path rest : List ℕ) (longest : ℕ) → length base ≤ longest →
-    slice_index base (length base - 1) ≡ slash → rest_below (Some base) case path ≡ Some rest →
-    EndsAt (folded case base) (folded case (take (min (length path) longest) path))
+text_ends : (base : List ℕ) (case : Case) (path rest : List ℕ) (longest : ℕ) → length base ≤ longest → slice_index base (length base - 1) ≡ slash →
+    rest_below (Some base) case path ≡ Some rest → EndsAt (folded case base) (folded case (take (min (length path) longest) path))
 text_ends [] case path rest longest le ends is = absurd (omega (arith, ends))
 text_ends (b ∷ bs) case path rest longest le ends is = grind (
   arith,
@@ -125,11 +119,7 @@ base_ends : (base : Option (List ℕ)) (case : Case) (path rest : List ℕ) (lon
     EndsAt (folded case (base_directory base)) (folded case (take (min (length path) longest) path))
 base_ends None case path rest longest le ends is = absurd (omega (arith, ends))
 base_ends (Some base) case path rest longest le ends is =
-    by_test (ends_in_slash base)
-    (λ t. let own : base ≡ base_directory (Some base) = grind (arith, t) in
-    subst (λ d. EndsAt (folded case d) (folded case (take (min (length path) longest) path))) own
-    (text_ends base case path rest longest (omega (arith, le, ap length own)) (grind (arith, ends, own)) is))
-    (λ f. absurd (grind (arith, f, ends)))
+    by_test (ends_in_slash base) (λ t. grind (arith, text_ends)) (λ f. absurd (grind (arith, f, ends)))
 
 -- a list that applies to the path is found
 pub list_found : (lists : List IndexedList) (path found rest : List ℕ) (longest : ℕ) (case : Case) (number : ℕ) (list : IndexedList) →
@@ -149,20 +139,15 @@ list_found lists path found rest longest case number list le gathers has busy ap
           gathers.empty number (keyed ∙ ap (λ t. Some (text_key t)) (no_directory (base_bytes list.list.base) case other.1))
     ]
 
-pub few_counted : (n : ℕ) → n ≤ 4 → CountUp n (take n (0 ∷ 1 ∷ 2 ∷ 3 ∷ []))
-few_counted zero le = grind arith
-few_counted (suc zero) le = grind arith
-few_counted (suc (suc zero)) le = grind arith
-few_counted (suc (suc (suc zero))) le = grind arith
-few_counted n le = grind arith
-
--- all lists are found by the numbers below their count
-pub all_found : (case : Case) (path : List ℕ) (lists : List IndexedList) (numbers : List ℕ) → CountUp (length lists) numbers →
-    AreListsFor case path lists numbers
-all_found case path lists numbers up =
+-- if the lists are few, all are found by the numbers below their count
+pub few_found : (case : Case) (path : List ℕ) (lists : List IndexedList) (n : ℕ) → n ≡ length lists → n ≤ 4 →
+    AreListsFor case path lists (take n (range_with_len 0 4))
+few_found case path lists n count le =
+    let up : (i : ℕ) → i < n → get_or (take n (range_with_len 0 4)) i 0 ≡ i = λ i lt. grind (arith, get_or-take, get_or-range_with_len) in
     record {
       all = λ number list rest has busy applies.
           let lt = slice_get_within lists number list has in
-          subst (Contains numbers) (up.each number lt) (Contains-get_or numbers number 0 (omega (arith, lt, up.len)));
-      rising = IsNonDecreasingBy-from_default (λ x. x) numbers 0 (λ i j le lt. grind arith);
+          subst (Contains (take n (range_with_len 0 4))) (up number (omega (arith, count, lt)))
+          (Contains-get_or (take n (range_with_len 0 4)) number 0 (omega (arith, count, lt, le, length-take n (range_with_len 0 4))));
+      rising = IsNonDecreasingBy-from_default (λ x. x) (take n (range_with_len 0 4)) 0 (λ i j le lt. grind (arith, length-take));
     }

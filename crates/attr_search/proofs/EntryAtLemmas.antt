@@ -1,7 +1,8 @@
 -- The line at an index of a list, and whether it matches a path.
-use Rattle.std.proofs.Common.{◌≡◌, ℕ, ◌<◌, Bool, true, false, not, ◌||◌, List, [], ◌∷◌, length, map, get_or, Option, Some, None, Ok}
+use Rattle.std.proofs.Common.{◌≡◌, ℕ, ◌<◌, Bool, true, false, not, ◌||◌, List, length, map, get_or, Option, Some, None, Ok}
 use Rattle.std.proofs.Common.{Err, Result, refl, sym, ap, ◌∙◌, arith}
 use Rattle.std.specs.Prelude.{IfOk, IsTrue, MatchOption, ◌↔◌}
+use mathlib.Core.List.{map-map}
 use Rattle.std.proofs.Math.Logic.{∥∥₁_elim}
 use Rattle.std.proofs.Math.Bool.{Bool-set}
 use Rattle.std.proofs.lemmas.List.{length-map, get_or-map}
@@ -13,7 +14,7 @@ use Rattle.attr_wildmatch.specs.Deciding.{text_matches}
 use Rattle.attr_wildmatch.specs.declared.pairs.Pairs.{Pairs}
 use Rattle.attr_wildmatch.specs.Pairs.{has_pair, holds, needs_pair}
 use Rattle.attr_wildmatch.proofs.ForCallers.{by_test, match_of_test, pair_in_end, pair_needed}
-use Rattle.attr_glob.specs.KeptTokens.{kept_tokens, needs_tokens}
+use Rattle.attr_glob.specs.KeptTokens.{kept_tokens}
 use Rattle.attr_glob.specs.Paths.{matched_part, is_directory, path_matches}
 use Rattle.attr_glob.specs.Patterns.{Reading, reading, has_flag, negative, must_be_dir}
 use Rattle.attr_glob.specs.Views.{patterns_of}
@@ -24,8 +25,7 @@ use Rattle.attr_search.specs.shared.ReadLines.{AreRead}
 
 -- the patterns of a list are those of its lines
 pub lines_patterns : (ms : List (Mapping Value)) → patterns_of ms ≡ map (λ entry. entry.pattern) (entries_view ms)
-lines_patterns [] = refl
-lines_patterns (m ∷ ms) = let e = lines_patterns ms in cc
+lines_patterns ms = sym (map-map (λ (entry : Entry). entry.pattern) entry_view ms)
 
 -- what is known of a line that defines no macro
 read_at : (lines : List Entry) (index : ℕ) → AreRead lines → index < length lines → (entry_at lines index).macro ≡ None →
@@ -60,7 +60,7 @@ in_part k r path h = grind (arith, pair_in_end)
 
 -- tokens that are kept are those of the text
 kept_of_text : (r : Reading) (ts : List Token) → kept_tokens r ≡ Some ts → tokens r.text ≡ Some ts
-kept_of_text r ts e = by_test (needs_tokens r) (λ needed. rw needed at e) (λ other. absurd (grind arith))
+kept_of_text r ts e = grind (arith, by_test)
 
 -- a pattern whose tokens need more than the path has doesn't match it
 lacking_text : (case : Case) (r : Reading) (path : List ℕ) (kinds : Pairs) (kept : Option (List Token)) (answer : Bool) →

@@ -1,13 +1,13 @@
 -- What filling slots by numbered items reads and writes, in the terms of the table.
-use Rattle.std.proofs.Common.{◌≡◌, ℕ, zero, suc, ◌+◌, ◌<◌, ◌≤◌, List, [], ◌∷◌, ◌++◌, length, get_or, take, drop, map, Option, Some, None}
-use Rattle.std.proofs.Common.{refl, ap, ◌∙◌}
-use Rattle.std.proofs.Common.{⊎_elim, arith, Bool, ◌||◌, true, false}
+use Rattle.std.proofs.Common.{◌≡◌, ℕ, zero, suc, ◌+◌, ◌<◌, ◌≤◌, List, [], ◌∷◌, ◌++◌, length, get_or, take, drop, map, Option, Some, None, refl, ap}
+use Rattle.std.proofs.Common.{◌∙◌, rules, arith, Bool, ◌||◌, true, false}
 use Rattle.std.specs.Prelude.{is_some, not, ◌==◌, All, slice_index_or, if◌then◌else◌}
 use Rattle.std.proofs.Math.ListN
-use Rattle.std.proofs.lemmas.Bool.{false≢true, cases_eq, eq-eqb, ne_eqb, cases_lt}
-use Rattle.std.proofs.lemmas.List.{map-append, get_or_past, get_or-set_same, get_or-set_other, length-set, length-take, take_all, append_assoc}
+use Rattle.std.proofs.lemmas.Grind.{common_steps}
+use Rattle.std.proofs.lemmas.Bool.{false≢true, cases_eq, eq-eqb, ne_eqb}
+use Rattle.std.proofs.lemmas.List.{map-append, get_or-set_same, get_or-set_other, length-set, length-take, take_all, append_assoc}
 use Rattle.std.proofs.lemmas.List.{append-nil, length-append, length-map, drop_more, get_or-take}
-use Rattle.std.proofs.lemmas.List.Elements.{All-cons, All-map, All-pop, All-push, All-same}
+use Rattle.std.proofs.lemmas.List.Elements.{All-cons, All-map, All-pop, All-same}
 use Rattle.std.proofs.lemmas.List.Sums.{sum_by-append}
 use Rattle.attr_lists.specs.declared.types.TrackedAssignment.{TrackedAssignment}
 use Rattle.attr_table.specs.Setting.{Item, Origin, body_of}
@@ -20,58 +20,35 @@ use Rattle.attr_search.specs.Slots.{table_item, table_items, table_state}
 use Rattle.attr_search.specs.SearchContents.{SearchContents}
 use Rattle.attr_search.specs.shared.SlotContents.{open_slots}
 use Rattle.attr_search.proofs.OpenLemmas.{open_needed}
-use Rattle.attr_lists.specs.Numbers.{AreNamed}
 use Rattle.attr_search.specs.declared.matching_line.MatchingLine.{MatchingLine}
 use Rattle.attr_search.specs.inner.Filling.{AtLine, Fills, FillsBy, FillsItem, FillsTo, LeadsTo, own_item, steps_left, tasks_left}
 use Rattle.attr_search.specs.inner.Searched.{KeepsState, state_bodies, state_wanted}
-use Rattle.attr_search.specs.inner.Pending.{AreFilled, IsLastFree, HasItemsBefore, item_answer, line_origin, items_beside, no_item}
+use Rattle.attr_search.specs.inner.Pending.{AreFilled, IsLastFree, HasItemsBefore, line_origin, items_beside, no_item}
 use Rattle.attr_search.specs.inner.Pending.{end_of_body, stacked_tasks, task_at, tasks_before}
 
 -- the bodies in the table
-pub body_table : (bs : List (List TrackedAssignment)) (a : ℕ) →
-    body_of (map table_items bs) a ≡ table_items (slice_index_or bs a [])
+pub body_table : (bs : List (List TrackedAssignment)) (a : ℕ) → body_of (map table_items bs) a ≡ table_items (slice_index_or bs a [])
 body_table bs a = ListN.get_or-map table_items bs a []
-
--- what holds of the items of the line and of each body holds of the items among which one waits
-beside : (P : List TrackedAssignment → Type 0) (line : List TrackedAssignment) (bs : List (List TrackedAssignment)) (cause : Option ℕ) →
-    P [] → P line → All P bs → P (items_beside line bs cause)
-beside P line bs None none h b = h
-beside P line bs (Some a) none h b = grind (arith, get_or_past, cases_lt)
 
 is_filled-table : (items : List TrackedAssignment) → not (length items == 0) ≡ is_filled (table_items items)
 is_filled-table [] = refl
-is_filled-table (i ∷ items) = let d = ne_eqb (length (i ∷ items)) 0 (λ (f : length (i ∷ items) ≡ 0). omega arith) in rw d refl
+is_filled-table (i ∷ items) = grind (arith, ne_eqb)
 
-item_opened : {line : MatchingLine} {at : ItemIndex} {before after : SearchContents} →
-    FillsItem line at before after →
+item_opened : {line : MatchingLine} {at : ItemIndex} {before after : SearchContents} → FillsItem line at before after →
     open_slots after ≡ fill (state_bodies before) (task_at (line_origin line) line.items.now before.bodies at) (open_slots before)
 item_opened {line} {at} {before} {after} p =
     grind (arith, open_needed, is_filled-table, body_table, get_or-set_same, eq-eqb, get_or-set_other, ne_eqb, cases_eq)
 
 -- the rest is kept
-pub fills_kept : {line : MatchingLine} {at : ItemIndex} (before after : SearchContents) →
-    FillsItem line at before after → KeepsState before after
+pub fills_kept : {line : MatchingLine} {at : ItemIndex} (before after : SearchContents) → FillsItem line at before after → KeepsState before after
 fills_kept {line} {at} before after p = grind (arith, length-set, open_needed, false≢true, get_or-set_other)
 
 pub fills_by : {line : MatchingLine} {at : ItemIndex} (before after : SearchContents) →
     FillsItem line at before after → FillsBy line.items.now before after
-fills_by {line} {at} before after p = record {
-  named = λ names h b held a.
-      let own = own_item line at before in
-      let answer = item_answer (line_origin line) before.bodies own at.cause in
-      ⊎_elim
-      (λ (f : a ≡ own.id.0).
-      let g = get_or-set_same before.answers own.id.0 (Some answer) None p.within in
-      let named = beside (AreNamed names) line.items.now before.bodies at.cause (λ k d lt. absurd (omega arith)) h b at.index no_item p.inside in
-      rw (p.filled, f, g) named)
-      (λ (ne : a ≡ own.id.0 → ⊥). rw p.filled (grind (arith, get_or-set_other)))
-      (cases_eq a own.id.0);
-  tested = ap (λ state. state.tested) p.filled;
-}
+fills_by {line} {at} before after p = grind (arith, common_steps)
 
 -- some first items, of which one is at an index
-take_split : {X : Type 0} (xs : List X) (i e : ℕ) (d : X) → i < e → e ≤ length xs →
-    take e xs ≡ take i xs ++ get_or xs i d ∷ drop (i + 1) (take e xs)
+take_split : {X : Type 0} (xs : List X) (i e : ℕ) (d : X) → i < e → e ≤ length xs → take e xs ≡ take i xs ++ get_or xs i d ∷ drop (i + 1) (take e xs)
 take_split [] i e d lt le = absurd (omega arith)
 take_split (x ∷ xs) i zero d lt le = absurd (omega arith)
 take_split (x ∷ xs) zero (suc e) d lt le = refl
@@ -165,15 +142,6 @@ leads_on {line} {own} before after at next stack left p within same last undone 
     grind (arith, split_tasks origin line.items.now before.bodies at own within same last.before, append_assoc)
 
 -- nothing, if there is no body
-leads_closed-tasks : (line : MatchingLine) (own : ItemIndex) (before : SearchContents) →
-    end_of_body before.bodies (own_item line own before).id.0 (expands (table_state (own_item line own before).inner.state)) ≡ None →
-    opened (state_bodies before) (task_at (line_origin line) line.items.now before.bodies own) ≡ []
-leads_closed-tasks line own before none =
-    let item = own_item line own before in
-    let sets = expands (table_state item.inner.state) in
-    let empty = no_end item.id.0 sets (slice_index_or before.bodies item.id.0 []) none in
-    grind (arith, body_table, empty)
-
 pub leads_closed : {line : MatchingLine} {own : ItemIndex} (before after : SearchContents) (at : ItemIndex) (stack : List ItemIndex) →
     FillsItem line own before after → HasItemsBefore line.items.now before.bodies at → own.cause ≡ at.cause →
     IsLastFree (open_slots before) (items_beside line.items.now before.bodies at.cause) at.index own.index →
@@ -181,20 +149,9 @@ pub leads_closed : {line : MatchingLine} {own : ItemIndex} (before after : Searc
     end_of_body before.bodies (own_item line own before).id.0 (expands (table_state (own_item line own before).inner.state)) ≡ None →
     LeadsTo line before at stack after own stack
 leads_closed {line} {own} before after at stack p within same last undone none =
-    leads_on before after at own stack stack p within same last undone (rw (leads_closed-tasks line own before none) refl)
+    leads_on before after at own stack stack p within same last undone (grind (arith, no_end, body_table))
 
 -- or the body of its attribute
-leads_opened-tasks : (line : MatchingLine) (own next : ItemIndex) (before : SearchContents) →
-    end_of_body before.bodies (own_item line own before).id.0 (expands (table_state (own_item line own before).inner.state)) ≡ Some next →
-    tasks_before (line_origin line) line.items.now before.bodies next
-    ≡ opened (state_bodies before) (task_at (line_origin line) line.items.now before.bodies own)
-leads_opened-tasks line own next before ends =
-    let item = own_item line own before in
-    let body = slice_index_or before.bodies item.id.0 [] in
-    let told = some_end before.bodies item.id.0 (expands (table_state item.inner.state)) next ends in
-    let whole : take (length body) body ≡ body = take_all (length body) body (omega arith) in
-    rw (told.1, whole, told.0, body_table before.bodies item.id.0) refl
-
 pub leads_opened : {line : MatchingLine} {own : ItemIndex} (before after : SearchContents) (at next : ItemIndex) (stack : List ItemIndex) →
     FillsItem line own before after → HasItemsBefore line.items.now before.bodies at → own.cause ≡ at.cause →
     IsLastFree (open_slots before) (items_beside line.items.now before.bodies at.cause) at.index own.index →
@@ -202,20 +159,13 @@ pub leads_opened : {line : MatchingLine} {own : ItemIndex} (before after : Searc
     end_of_body before.bodies (own_item line own before).id.0 (expands (table_state (own_item line own before).inner.state)) ≡ Some next →
     LeadsTo line before at stack after next (stack ++ own ∷ [])
 leads_opened {line} {own} before after at next stack p within same last undone ends =
-    leads_on before after at next stack (stack ++ own ∷ []) p within same last undone
-    (rw (stacked_top (line_origin line) line.items.now before.bodies stack own, leads_opened-tasks line own next before ends) refl)
+    leads_on before after at next stack (stack ++ own ∷ []) p within same last undone (grind (arith, stacked_top, take_all, body_table))
 
 -- one more item before the end is filled
 pub filled_more : (slots : Slots) (items : List TrackedAssignment) (few i : ℕ) (item : TrackedAssignment) → i < few → few ≤ length items →
     item ≡ get_or items i item → is_some (slots item.id.0) ≡ true → AreFilled slots (drop (i + 1) (take few items)) →
     AreFilled slots (drop i (take few items))
-filled_more slots items few i item lt le is filled rest =
-    let P : TrackedAssignment → Type 0 = λ item. is_some (slots item.id.0) ≡ true in
-    let xs = take few items in
-    let short = length-take few items in
-    let more = drop_more xs i item (omega arith) in
-    let own : get_or xs i item ≡ item = grind (arith, get_or-take) in
-    All-same P (drop i xs) (get_or xs i item ∷ drop (i + 1) xs) more (All-cons P (get_or xs i item) (drop (i + 1) xs) (rw own filled) rest)
+filled_more slots items few i item lt le is filled rest = grind (arith, length-take, drop_more, get_or-take, All-same, All-cons)
 
 -- the line goes on from the top of the stack, from an item that was filled, and from the end of a body
 pub at_top : {line : MatchingLine} {state : SearchContents} {at : ItemIndex} (top : ItemIndex) {stack : List ItemIndex} (rest : List ItemIndex) →
@@ -224,40 +174,19 @@ at_top {line} {state} top {stack} rest held is =
     let both = All-pop (HasItemsBefore line.items.now state.bodies) stack rest (Some top) is held.inside in
     record { bodies = held.bodies; in_line = held.in_line; within = both.1; inside = both.0; origin = held.origin }
 
-pub at_item : {line : MatchingLine} {at own : ItemIndex} {stack : List ItemIndex} (before after : SearchContents) →
-    AtLine line before at stack → FillsItem line own before after → own.cause ≡ at.cause → own.index < at.index →
-    AtLine line after own stack
-at_item {line} {at} {own} {stack} before after held p same lt =
-    let bodies : after.bodies ≡ before.bodies = grind arith in
-    let count : length after.answers ≡ length before.answers = grind (arith, length-set) in
-    record {
-      bodies = rw (bodies, count) held.bodies;
-      in_line = rw count held.in_line;
-      within = rw bodies (record { cause = rw same held.within.cause; index = grind (arith, held.within.index) });
-      inside = rw bodies held.inside;
-      origin = grind (arith, held.origin);
-    }
+pub at_item : {line : MatchingLine} {at own : ItemIndex} {stack : List ItemIndex} (before after : SearchContents) → AtLine line before at stack →
+    FillsItem line own before after → own.cause ≡ at.cause → own.index < at.index → AtLine line after own stack
+at_item {line} {at} {own} {stack} before after held p same lt = search (rules, length-set)
 
 pub at_body : {line : MatchingLine} {own next : ItemIndex} {stack : List ItemIndex} (after : SearchContents) (number : ℕ) (is_expanded : Bool) →
     AtLine line after own stack → number < length after.answers → end_of_body after.bodies number is_expanded ≡ Some next →
     AtLine line after next (stack ++ own ∷ [])
-at_body {line} {own} {next} {stack} after number is_expanded held lt ends =
-    let is = (some_end after.bodies number is_expanded next ends).1 in
-    record {
-      bodies = held.bodies;
-      in_line = held.in_line;
-      within = rw is (record { cause = omega (arith, held.bodies.same_length); index = omega arith });
-      inside = All-push (HasItemsBefore line.items.now after.bodies) stack own held.inside held.within;
-      origin = held.origin;
-    }
+at_body {line} {own} {next} {stack} after number is_expanded held lt ends = grind (arith, common_steps)
 
 -- one part after another
 pub then_by : {items : List TrackedAssignment} (first second third : SearchContents) → KeepsState first second →
     FillsBy items first second → FillsBy items second third → FillsBy items first third
-then_by first second third kept p q = record {
-  named = λ names own bodies held. q.named names own (rw kept.bodies bodies) (p.named names own bodies held);
-  tested = q.tested ∙ p.tested;
-}
+then_by first second third kept p q = grind arith
 
 -- fewer steps are left
 pub fewer_filled : {line : MatchingLine} {own : ItemIndex} (before after : SearchContents) (at : ItemIndex) (stack : List ItemIndex) →
@@ -287,14 +216,6 @@ fewer_opened {line} {own} before after at next stack is_expanded p lt ends =
 -- a line that is gone through from the end of its items on an empty stack fills the slots of its items
 pub line_done : (line : MatchingLine) (old fresh now : SearchContents) (stack : List ItemIndex) →
     fresh ≡ record old { line = Some (line_origin line); kept = old.kept + 1 } → stack ≡ [] → KeepsState fresh now →
-    FillsBy line.items.now fresh now →
-    FillsTo line fresh (record { cause = None; index = length line.items.now }) stack (open_slots now) now.taken →
+    FillsBy line.items.now fresh now → FillsTo line fresh (record { cause = None; index = length line.items.now }) stack (open_slots now) now.taken →
     KeepsState old now × Fills line.items.now (tasks_in (line_origin line) None (table_items line.items.now)) old now
-line_done line old fresh now stack begun empty kept by p =
-    let k = rw begun at kept in
-    let b = rw begun at by in
-    let whole : take (length line.items.now) line.items.now ≡ line.items.now = take_all (length line.items.now) line.items.now (omega arith) in
-    let q = rw (empty, begun, whole, append-nil) at p in (
-      record { wanted = k.wanted; needed = k.needed; bodies = k.bodies; len = k.len; skipped = k.skipped },
-      record { by = record { named = b.named; tested = b.tested }; searches = q },
-    )
+line_done line old fresh now stack begun empty kept by p = grind (arith, take_all, append-nil)

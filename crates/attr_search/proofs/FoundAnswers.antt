@@ -1,13 +1,13 @@
 -- What a whole search leaves, and whether it found what was wanted.
 use Rattle.std.proofs.Common.{◌≡◌, ℕ, suc, ◌+◌, ◌<◌, Bool, true, false, ◌&&◌, ◌||◌, List, [], ◌∷◌, length, map, get_or, Option, None, refl}
-use Rattle.std.proofs.Common.{sym, ap, ◌∙◌, arith, nat_lt}
+use Rattle.std.proofs.Common.{sym, ap, ◌∙◌, arith, rules, nat_lt}
 use Rattle.std.specs.Prelude.{is_some, is_none, option_map}
 use Rattle.std.specs.List.{list_any}
 use Rattle.std.proofs.lemmas.List.Folds.{list_any_none}
 use Rattle.attr_wildmatch.proofs.ForCallers.{by_test}
 use Rattle.attr_table.specs.Setting.{Item, Setting}
 use Rattle.attr_table.specs.Table.{Slots}
-use Rattle.attr_table.specs.Cut.{is_done, no_answers, IsSearched, ExtendsCuts}
+use Rattle.attr_table.specs.Cut.{is_done, IsSearched, ExtendsCuts}
 use Rattle.attr_table.specs.shared.Walk.{Task, Walks, ends, stops, skips, fills, Searches, tasks_of}
 use Rattle.attr_table.proofs.ForCallers.{fill_keeps, searched_joined}
 use Rattle.attr_search.specs.ListView.{Listed}
@@ -42,9 +42,8 @@ record IsLeft (found : Bool) (old new : ℕ) : Type 0 where
   some : found ≡ true → new < old
   none : found ≡ false → new ≡ old
 
-left_here : {X : Type 0} (w : Bool) (o n : Option X) (rest : Bool) (old new : ℕ) →
-    (w ≡ true → is_some o ≡ true → is_some n ≡ true) → IsLeft rest old new →
-    IsLeft ((w && (is_none o && is_some n)) || rest) (remaining_at w o + old) (remaining_at w n + new)
+left_here : {X : Type 0} (w : Bool) (o n : Option X) (rest : Bool) (old new : ℕ) → (w ≡ true → is_some o ≡ true → is_some n ≡ true) →
+    IsLeft rest old new → IsLeft ((w && (is_none o && is_some n)) || rest) (remaining_at w o + old) (remaining_at w n + new)
 left_here w o n rest old new kept left = grind arith
 
 -- whether a slot was filled
@@ -58,14 +57,11 @@ any_wanted w flags p = grind (arith, any-map)
 left_by : {X : Type 0} (flags : List Bool) (old new : List (Option X)) → length old ≡ length new →
     ((a : ℕ) → get_or flags a false ≡ true → is_some (get_or old a None) ≡ true → is_some (get_or new a None) ≡ true) →
     IsLeft (list_any (newly old new) (wanted_numbers flags)) (count_remaining flags old) (count_remaining flags new)
-left_by [] old new same kept = record { some = λ t. absurd (cc); none = λ f. refl }
-left_by {X = X} (w ∷ flags) [] [] same kept = grind (arith, list_any_none)
-left_by (w ∷ flags) [] (n ∷ ns) same kept = absurd (omega arith)
-left_by (w ∷ flags) (o ∷ os) [] same kept = absurd (omega arith)
 left_by (w ∷ flags) (o ∷ os) (n ∷ ns) same kept =
     let rest = left_by flags os ns (omega arith) (λ a. kept (suc a)) in
     rw (any_wanted w flags (newly (o ∷ os) (n ∷ ns)))
     (left_here w o n (list_any (newly os ns) (wanted_numbers flags)) (count_remaining flags os) (count_remaining flags ns) (kept 0) rest)
+left_by flags old new same kept = grind (arith, list_any_none)
 
 -- a test of the wanted numbers alone
 wanted_same : (flags : List Bool) (p q : ℕ → Bool) → ((a : ℕ) → get_or flags a false ≡ true → p a ≡ q a) →
@@ -103,8 +99,7 @@ nothing_found wanted slots = grind (arith, list_any_none)
 -- the slots after a search, over other lists that were searched before
 pub extends : (s : Setting) (wanted : List ℕ) (before after : Slots) → IsSearched s wanted before after →
     ExtendsCuts s.lists s.bodies wanted before after
-extends s wanted before after searched = λ lists first.
-    searched_joined lists s.lists s.bodies wanted no_answers before after first searched
+extends s wanted before after searched = search (rules, searched_joined)
 
 -- the counts of a state say nothing of what is kept
 pub counted_from : (before after : SearchContents) (taken tested : ℕ) → KeepsState (record before { taken = taken; tested = tested }) after →

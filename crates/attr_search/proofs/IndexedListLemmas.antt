@@ -1,5 +1,6 @@
 -- What is made of a list's patterns stays theirs when the list is numbered.
-use Rattle.std.proofs.Common.{arith, ◌≡◌, ℕ, ◌<◌, List, [], ◌∷◌, length, get_or, map, Option, refl, sym, ap, ◌∙◌}
+use Rattle.std.proofs.Common.{arith, ◌≡◌, ℕ, ◌<◌, List, [], ◌∷◌, length, get_or, map, Option, sym, ap, ◌∙◌}
+use mathlib.Core.List.{map-map}
 use Rattle.std.proofs.lemmas.List.{length-map, get_or-map}
 use Rattle.std.proofs.lemmas.List.Elements.{All-nil, All-cons, All-head, All-tail}
 use Rattle.attr_glob.specs.declared.search.pattern.Mapping.{Mapping}
@@ -20,13 +21,11 @@ abbrev numbered_pattern : Entry → NumberedPattern
 numbered_pattern e = record { pattern = e.pattern; number = e.line }
 
 lines-entries : (mappings : List (Mapping Value)) → listed_lines mappings ≡ map numbered_pattern (entries_view mappings)
-lines-entries [] = refl
-lines-entries (m ∷ ms) = ap (λ r. record { pattern = pattern_view m.pattern; number = m.sequence_number } ∷ r) (lines-entries ms)
+lines-entries mappings = sym (map-map numbered_pattern entry_view mappings)
 
 -- the pattern of the line with an index is that of the line of the list there
-pub entry_pattern : (lines : List IndexedLine) (ms : List (Mapping Value)) (index : ℕ) (line : IndexedLine) →
-    indexed_lines lines ≡ listed_lines ms → index < length ms → line ≡ get_or lines index line →
-    (entry_at (entries_view ms) index).pattern ≡ pattern_view line.pattern
+pub entry_pattern : (lines : List IndexedLine) (ms : List (Mapping Value)) (index : ℕ) (line : IndexedLine) → indexed_lines lines ≡ listed_lines ms →
+    index < length ms → line ≡ get_or lines index line → (entry_at (entries_view ms) index).pattern ≡ pattern_view line.pattern
 entry_pattern lines ms index line e lt is =
     let same = lines_length lines ms e in
     let n = length-map ms entry_view in

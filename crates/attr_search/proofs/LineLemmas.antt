@@ -69,8 +69,7 @@ line_differs rest listed index tested state answer told other le most = grind (a
 -- no item of a line is free
 pub none_told : (B : ℕ → Type 0) (slots : Slots) (items : List TrackedAssignment) (last : Option ℕ) →
     MatchOption last (AreFilled slots (take (length items) items)) B → is_some last ≡ false → AreFilled slots items
-none_told B slots items None told none = rw (take_all (length items) items (omega arith)) at told
-none_told B slots items (Some index) told none = absurd (grind arith)
+none_told B slots items last told none = grind (arith, take_all)
 
 -- then it is passed over
 line_passed : (bodies : List (List Item)) (wanted : List ℕ) (origin : Origin) (cause : Option ℕ) (items : List TrackedAssignment) (slots : Slots)

@@ -1,8 +1,9 @@
 -- The first filled slot from a number on, by numbers in their order.
 use Rattle.attr_search.proofs.SlotLemmas.{is_some_map}
 use Rattle.std.proofs.Common.{◌≡◌, ℕ, ◌<◌, ◌≤◌, true, List, length, get_or, Option, None, sym, ◌∙◌, arith, ⊎_elim}
-use Rattle.std.proofs.Common.{MatchOption, subst, nat_eq, is_some, suc, [], ◌∷◌, map, option_map}
+use Rattle.std.proofs.Common.{MatchOption, subst, nat_eq, is_some, [], map, option_map}
 use Rattle.std.specs.Prelude.{slice_get}
+use Rattle.std.proofs.Math.ListN
 use Rattle.std.specs.Cmp.{nat_eq_equiv}
 use Rattle.std.specs.List.Sorted.{IsStrictlyIncreasing, IsPermutation}
 use Rattle.std.proofs.lemmas.List.Elements.{All-get_or}
@@ -14,11 +15,6 @@ use Rattle.std.proofs.lemmas.List.Folds.{list_any_none}
 use Rattle.std.proofs.lemmas.Option.{slice_get_cases}
 use Rattle.attr_search.specs.Slots.{AreFreeFrom, IsNextFilled}
 use Rattle.attr_search.specs.shared.SlotContents.{AreListed}
-
-mapped_at : {X Y : Type 0} (f : X → Y) (slots : List (Option X)) (n : ℕ) →
-    get_or (map (λ o. option_map f o) slots) n None ≡ option_map f (get_or slots n None)
-mapped_at f (o ∷ slots) (suc n) = mapped_at f slots n
-mapped_at f slots n = grind arith
 
 -- a slot is free if its number is below those that are listed from an index on, and not below those before
 free_between : {X : Type 0} (slots : List (Option X)) (numbers : List ℕ) (from start n : ℕ) → AreListed slots numbers →
@@ -52,10 +48,10 @@ first_listed slots numbers from start listed rising below above = ⊎_elim
 pub seen_match : {X Y : Type 0} (f : X → Y) (slots slots' : List (Option X)) (from : ℕ) (found : Option ℕ) → slots' ≡ slots →
     MatchOption found (AreFreeFrom slots' from) (IsNextFilled slots' from) →
     MatchOption found (AreFreeFrom (map (λ o. option_map f o) slots) from) (IsNextFilled (map (λ o. option_map f o) slots) from)
-seen_match f slots slots' from found same free = grind (arith, mapped_at, is_some_map)
+seen_match f slots slots' from found same free = grind (arith, ListN.get_or-map (λ o. option_map f o) slots, is_some_map)
 
 pub rising_nothing : (numbers : List ℕ) → numbers ≡ [] → IsStrictlyIncreasing numbers
-rising_nothing numbers none = subst IsStrictlyIncreasing (sym none) (λ k lt. absurd (omega (arith, lt)))
+rising_nothing numbers none = grind arith
 
 -- numbers that are put in order list the same slots
 pub listed_permuted : {X : Type 0} (slots : List (Option X)) (numbers sorted : List ℕ) → IsPermutation numbers sorted → AreListed slots numbers →

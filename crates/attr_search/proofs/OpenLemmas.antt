@@ -2,9 +2,9 @@
 use Rattle.std.proofs.Common.{◌≡◌, ℕ, suc, ◌<◌, Bool, true, false, ◌&&◌, List, ◌∷◌, length, get_or, set, map, take, replicate}
 use Rattle.std.proofs.Common.{nat_eq, ◌++◌, ◌-◌, Option, Some, None, is_some, is_none, sym, ap, ◌∙◌, arith}
 use Rattle.std.specs.Prelude.{if◌then◌else◌}
-use Rattle.std.proofs.lemmas.Bool.{cases_eq, cases_lt}
+use Rattle.std.proofs.lemmas.Bool.{cases_eq}
 use Rattle.std.proofs.Math.Bool.{and-false, and-true}
-use Rattle.std.proofs.lemmas.List.{ext_get_or, get_or_append_left, get_or_past, get_or-set_other, get_or-set_same}
+use Rattle.std.proofs.lemmas.List.{ext_get_or, get_or_append_left, get_or-set_other, get_or-set_same}
 use Rattle.std.proofs.lemmas.List.{get_or-take, length-set, length-take}
 use Rattle.attr_table.specs.Cut.{is_done}
 use Rattle.attr_table.specs.Skipped.{narrowed, skipped_answer}
@@ -64,14 +64,9 @@ pub record AreOpenUpTo {X : Type 0} (needed : List Bool) (slots : List (Option X
   pub count : length is_open ≡ number
   pub at : (a : ℕ) → a < number → get_or is_open a false ≡ (get_or needed a false && is_none (get_or slots a None))
 
-pub open_whole : {X : Type 0} (needed : List Bool) (slots : List (Option X)) (is_open : List Bool) (number : ℕ) →
-    length needed ≡ length slots → number ≡ length slots → AreOpenUpTo needed slots is_open number → AreOpen needed slots is_open
-open_whole needed slots is_open number same end all = grind (arith, get_or_past, cases_lt)
-
 -- flags of as many numbers as a count: the first of those that there were, and more that are not set
-pub flag_resized : (flags resized : List Bool) (n count number : ℕ) → n ≡ length flags →
-    resized ≡ take count flags ++ replicate (count - n) false → number < count → number < length flags →
-    get_or resized number false ≡ get_or flags number false
+pub flag_resized : (flags resized : List Bool) (n count number : ℕ) → n ≡ length flags → resized ≡ take count flags ++ replicate (count - n) false →
+    number < count → number < length flags → get_or resized number false ≡ get_or flags number false
 flag_resized flags resized n count number same is lt within = grind (arith, get_or-take, length-take, get_or_append_left)
 
 -- any flags are among as many that are all set

@@ -134,8 +134,7 @@ list_round bodies wanted query path list found before after below are p =
 
 -- a list that does not apply
 pub list_unasked : (bodies : List (List Item)) (wanted : List ℕ) (query : PathQuery) (listed : Listed) (state : SearchContents) →
-    None ≡ rest_below listed.base query.case (bstr_bytes query.path) →
-    Rounds bodies wanted (list_rounds (query_lines query listed)) state state
+    None ≡ rest_below listed.base query.case (bstr_bytes query.path) → Rounds bodies wanted (list_rounds (query_lines query listed)) state state
 list_unasked bodies wanted query listed state none = rw (← none) (empty listed.lines)
   where
     empty : (lines : List Entry) → Rounds bodies wanted (list_rounds (map (line_of query.case query.is_dir listed.source None) lines)) state state

@@ -25,7 +25,6 @@ use Rattle.attr_search.specs.shared.Slotted.{LinesHaveSlots, ListsHaveSlots}
 use Rattle.attr_search.specs.inner.FoundLists.{AreListsFor}
 use Rattle.attr_search.specs.inner.Searched.{KeepsState, Rounds, Searched, SearchedLine, SearchedLines, SearchedList, SearchedLists}
 use Rattle.attr_search.specs.inner.Searched.{over, state_bodies, state_wanted}
-use Rattle.attr_search.specs.inner.Lines.{listed_tasks}
 use Rattle.attr_search.specs.inner.Trying.{AreTried}
 use Rattle.attr_search.proofs.CandidateLemmas.{tried_most}
 use Rattle.attr_search.proofs.RoundLemmas.{list_round, list_unasked, rounds_append, rounds_done}
@@ -58,14 +57,11 @@ indexes_append rest listed xs ys first second third kept p q = grind (arith, len
 -- queries for one path search a line alike
 pub line_of_query : (a b : PathQuery) (listed : Listed) (index : ℕ) (first second : SearchContents) → a.path ≡ b.path → a.case ≡ b.case →
     a.is_dir ≡ b.is_dir → SearchedLine a listed index first second → SearchedLine b listed index first second
-line_of_query a b listed index first second path case is_dir done =
-    let same : listed_tasks a listed index ≡ listed_tasks b listed index = rw (path, case, is_dir) refl in
-    subst (λ tasks. Searched (λ names. LinesAreNamed names listed.lines) 1 (tasks ∷ []) first second) same done
+line_of_query a b listed index first second path case is_dir done = grind arith
 
 pub more_indexes : (rest : PathQuery) (listed : Listed) (indexes : List ℕ) (k index : ℕ) (first second third : SearchContents) →
-    KeepsState first second → k < length indexes → index ≡ get_or indexes k index →
-    SearchedLines rest listed (take k indexes) first second → SearchedLine rest listed index second third →
-    SearchedLines rest listed (take (k + 1) indexes) first third
+    KeepsState first second → k < length indexes → index ≡ get_or indexes k index → SearchedLines rest listed (take k indexes) first second →
+    SearchedLine rest listed index second third → SearchedLines rest listed (take (k + 1) indexes) first third
 more_indexes rest listed indexes k index first second third kept lt is p q =
     grind (arith, take_more indexes k index lt, indexes_append rest listed (take k indexes) (index ∷ []) first second third kept p q)
 
@@ -82,9 +78,8 @@ pub list_apart : (query : PathQuery) (listed : Listed) (state : SearchContents) 
 list_apart query listed state none = grind (arith, list_unasked)
 
 pub list_by_candidates : (query rest : PathQuery) (list : IndexedList) (found : List ℕ) (before after : SearchContents) →
-    Some (bstr_bytes rest.path) ≡ rest_below (listed_view list).base query.case (bstr_bytes query.path) →
-    rest.case ≡ query.case → rest.is_dir ≡ query.is_dir →
-    AreTried rest.case (bstr_bytes rest.path) (patterns_of list.list.patterns.items) found →
+    Some (bstr_bytes rest.path) ≡ rest_below (listed_view list).base query.case (bstr_bytes query.path) → rest.case ≡ query.case →
+    rest.is_dir ≡ query.is_dir → AreTried rest.case (bstr_bytes rest.path) (patterns_of list.list.patterns.items) found →
     SearchedLines rest (listed_view list) found before after → SearchedList query (listed_view list) before after
 list_by_candidates query rest list found before after below case dir are p =
     let tried = rw case at are in
@@ -169,9 +164,8 @@ AreLeft query lists bound k numbers =
     (index : ℕ) × (index < k) × (get_or numbers index 0 ≡ number)
 
 -- those above the greatest number that is left don't apply
-pub apart_above : (query : PathQuery) (lists : List IndexedList) (bound k : ℕ) (numbers : List ℕ) → k < length numbers →
-    IsNonDecreasing numbers → AreLeft query lists bound (k + 1) numbers →
-    ApartBetween query lists (get_or numbers k 0 + 1) bound
+pub apart_above : (query : PathQuery) (lists : List IndexedList) (bound k : ℕ) (numbers : List ℕ) → k < length numbers → IsNonDecreasing numbers →
+    AreLeft query lists bound (k + 1) numbers → ApartBetween query lists (get_or numbers k 0 + 1) bound
 apart_above query lists bound k numbers lt rising left = grind arith
 
 -- fewer are left after the greatest

@@ -1,17 +1,16 @@
 -- What is left to fill, and slots over what is stored.
-use Rattle.std.proofs.Common.{◌≡◌, ℕ, suc, ◌+◌, ◌-◌, ◌<◌, ◌≤◌, Bool, true, false, ◌&&◌, cond, nat_eq, List, [], ◌∷◌, ◌++◌, length}
-use Rattle.std.proofs.Common.{get_or, set, take, map, Option, Some, None, is_some, option_map, MatchOption, refl, sym, ap, ◌∙◌, arith, Result}
-use Rattle.std.proofs.Common.{zero-add, length-take, drop, replicate, length-append}
+use Rattle.std.proofs.Common.{◌≡◌, ℕ, suc, ◌+◌, ◌-◌, ◌<◌, ◌≤◌, Bool, true, false, cond, nat_eq, List, [], ◌∷◌, ◌++◌, length}
+use Rattle.std.proofs.Common.{get_or, set, take, map, Option, Some, None, is_some, option_map, MatchOption, refl, sym, ap, ◌∙◌, arith, rules, Result}
+use Rattle.std.proofs.Common.{length-take, drop, replicate, length-append}
 use Rattle.std.specs.Bool.{⊤}
 use Rattle.std.specs.List.{IsDistinct, list_all, list_any}
-use Rattle.std.specs.Result.{OnErr, OnOk}
+use Rattle.std.specs.Result.{OnErr}
 use mir.Val.{bool_byte}
-use Rattle.std.proofs.lemmas.List.{drop_all, drop_more, get_or-replicate, get_or-set_other}
-use Rattle.std.proofs.lemmas.List.{get_or-set_same, get_or-take, length-map, length-replicate}
-use Rattle.std.proofs.lemmas.List.{get_or_append_left, get_or-append_right, get_or_past}
+use Rattle.std.proofs.lemmas.List.{drop_all, drop_more, get_or-replicate, get_or-set_other, get_or-set_same, get_or-take, length-map}
+use Rattle.std.proofs.lemmas.List.{length-replicate, get_or_append_left, get_or-append_right, get_or_past, ext_get_or, take_more, map-set}
+use Rattle.std.proofs.Math.ListN
 use Rattle.std.proofs.lemmas.Bool.{cases_eq, cases_lt}
 use Rattle.std.proofs.lemmas.Bool.Decides.{nat_tests}
-use Rattle.std.proofs.lemmas.List.{ext_get_or, take_more, map-set}
 use Rattle.std.proofs.lemmas.List.Elements.{All-set, All-weaker, All-get_or, All-head, All-tail, All-same, All-map, All-nil, All-push}
 use Rattle.std.proofs.lemmas.List.Folds.{list_all-map, list_any-append, list_any_none}
 use mathlib.Core.List.{map-map}
@@ -24,10 +23,7 @@ use Rattle.attr_search.specs.inner.PartsContents.{PartsContent, KeepsParts}
 use Rattle.attr_search.specs.declared.answer_parts.MatchRef.{MatchRef}
 use Rattle.attr_search.proofs.PartLemmas.{grows_at, grows_length}
 
--- a fact that holds anyway holds on a value, and on an error
-pub on_ok : {T E F : Type 0} (r : Result T E) → F → OnOk r F
-on_ok r f = grind arith
-
+-- a fact that holds anyway holds on an error
 pub on_err : {T E F : Type 0} (r : Result T E) → F → OnErr r F
 on_err r f = grind arith
 
@@ -38,22 +34,14 @@ is_some_map f o = grind arith
 pub left_done : {X Y : Type 0} (flags : List Bool) (slots : List (Option X)) (found : ℕ → Option Y) → length flags ≡ length slots →
     ((a : ℕ) → get_or flags a false ≡ true → is_some (found a) ≡ is_some (get_or slots a None)) →
     nat_eq (count_remaining flags slots) 0 ≡ list_all (λ w. is_some (found w)) (wanted_numbers flags)
-left_done (true ∷ flags) (Some x ∷ slots) found e same =
-    ap (λ n. nat_eq n 0) (zero-add (count_remaining flags slots))
-    ∙ left_done flags slots (λ a. found (suc a)) (omega arith) (λ a w. same (suc a) w)
-    ∙ sym (list_all-map (λ v. is_some (found v)) suc (wanted_numbers flags))
-    ∙ sym (ap (λ b. b && list_all (λ v. is_some (found v)) (map suc (wanted_numbers flags))) (same 0 refl))
-left_done (false ∷ flags) (o ∷ slots) found e same =
-    ap (λ n. nat_eq n 0) (zero-add (count_remaining flags slots))
-    ∙ left_done flags slots (λ a. found (suc a)) (omega arith) (λ a w. same (suc a) w)
-    ∙ sym (list_all-map (λ v. is_some (found v)) suc (wanted_numbers flags))
+left_done (w ∷ flags) (o ∷ slots) found e same = grind (arith, list_all-map, left_done flags slots (λ a. found (suc a)))
 left_done flags slots found e same = grind arith
 
 -- a slot is seen as filled where it is filled
 pub seen_filled : (store : PartsContent) (slots : List (Option MatchRef)) (a : ℕ) → is_some (slots_of (matches_by_ref store slots) a) ≡ is_some
     (get_or slots a None)
-seen_filled store (o ∷ slots) (suc a) = grind (arith, is_some_map, seen_filled store slots a)
-seen_filled store slots a = grind (arith, is_some_map)
+seen_filled store slots a =
+    rw (ListN.get_or-map (λ slot. option_map (match_by_ref store) slot) slots a None) (grind (arith, is_some_map))
 
 count_left_push : {X : Type 0} (flags : List Bool) (slots : List (Option X)) (w : Bool) (o : Option X) → length flags ≡ length slots →
     count_remaining (flags ++ w ∷ []) (slots ++ o ∷ []) ≡ count_remaining flags slots + remaining_at w o
@@ -104,9 +92,8 @@ slot_stays old new o extends within = grind (arith, match_stays old new)
 pub slots_stay : (old new : PartsContent) (slots : List (Option MatchRef)) → KeepsParts old new → AreMatchRefs old slots → AreMatchRefs new slots
 slots_stay old new slots extends within = grind (arith, slot_stays old new)
 
-pub matches_stay : (old new : PartsContent) (slots : List (Option MatchRef)) → KeepsParts old new → AreMatchRefs old slots
-    → matches_by_ref new slots ≡
-    matches_by_ref old slots
+pub matches_stay : (old new : PartsContent) (slots : List (Option MatchRef)) → KeepsParts old new → AreMatchRefs old slots →
+    matches_by_ref new slots ≡ matches_by_ref old slots
 matches_stay old new [] extends within = refl
 matches_stay old new (o ∷ slots) extends within =
     let P : Option MatchRef → Type 0 = λ o. MatchOption o ⊤ (IsMatchRef old) in
@@ -116,42 +103,30 @@ matches_stay old new (o ∷ slots) extends within =
 -- one slot is filled in
 pub slots_filled : (old new : PartsContent) (slots : List (Option MatchRef)) (i : ℕ) (m : MatchRef) → KeepsParts old new → AreMatchRefs old slots →
     IsMatchRef new m → AreMatchRefs new (set slots i (Some m))
-slots_filled old new slots i m extends within here =
-    All-set (λ o. MatchOption o ⊤ (IsMatchRef new)) slots i (Some m) here (slots_stay old new slots extends within)
+slots_filled old new slots i m extends within here = search (rules, All-set, slots_stay)
 
-pub matches_filled : (old new : PartsContent) (slots : List (Option MatchRef)) (i : ℕ) (m : MatchRef) (x : Matched) → KeepsParts old new
-    → AreMatchRefs
-    old slots → match_by_ref new m ≡ x →
-    matches_by_ref new (set slots i (Some m)) ≡ set (matches_by_ref old slots) i (Some x)
+pub matches_filled : (old new : PartsContent) (slots : List (Option MatchRef)) (i : ℕ) (m : MatchRef) (x : Matched) → KeepsParts old new →
+    AreMatchRefs old slots → match_by_ref new m ≡ x → matches_by_ref new (set slots i (Some m)) ≡ set (matches_by_ref old slots) i (Some x)
 matches_filled old new slots i m x extends within here = grind (arith, map-set, matches_stay)
 
 -- empty slots hold no match
-pub empty_within : {X : Type 0} (store : PartsContent) (slots : List (Option MatchRef)) (xs : List X) → slots ≡ map (λ x. None) xs
-    → AreMatchRefs store
-    slots
-empty_within store slots xs e =
-    let P : Option MatchRef → Type 0 = λ o. MatchOption o ⊤ (IsMatchRef store) in
-    All-same P slots (map (λ x. None) xs) e (All-map P (λ x. None) xs (λ k d lt. tt))
+pub empty_within : {X : Type 0} (store : PartsContent) (slots : List (Option MatchRef)) (xs : List X) → slots ≡ map (λ x. None) xs →
+    AreMatchRefs store slots
+empty_within store slots xs e = search (rules, All-same, All-map)
 
-pub empty_seen : {X : Type 0} (store : PartsContent) (slots : List (Option MatchRef)) (xs : List X) → slots ≡ map (λ x. None) xs
-    → matches_by_ref store
-    slots ≡ map (λ x. None) xs
-empty_seen store slots xs e = ap (matches_by_ref store) e ∙ map-map (λ o. option_map (match_by_ref store) o) (λ x. None) xs
+pub empty_seen : {X : Type 0} (store : PartsContent) (slots : List (Option MatchRef)) (xs : List X) → slots ≡ map (λ x. None) xs →
+    matches_by_ref store slots ≡ map (λ x. None) xs
+empty_seen store slots xs e = grind (arith, map-map)
 
 -- emptied slots are seen as such, whatever is stored then
 pub emptied_seen : (store store' : PartsContent) (slots slots' : List (Option MatchRef)) (held : List (Option Matched)) →
-    matches_by_ref store slots ≡ held →
-    slots' ≡ map (λ o. None) slots →
-    matches_by_ref store' slots' ≡ map (λ o. None) held
-emptied_seen store store' slots slots' held is e =
-    empty_seen store' slots' slots e ∙ sym (map-map (λ (m : Option Matched). None) (λ o. option_map (match_by_ref store) o) slots) ∙ ap
-    (map (λ o. None)) is
+    matches_by_ref store slots ≡ held → slots' ≡ map (λ o. None) slots → matches_by_ref store' slots' ≡ map (λ o. None) held
+emptied_seen store store' slots slots' held is e = grind (arith, empty_seen, map-map)
 
 -- one slot less is left where a wanted one is filled
-pub fill_counts : {X : Type 0} (flags : List Bool) (slots : List (Option X)) (i : ℕ) (x : X) (w : Bool) (left taken : ℕ) → length flags ≡ length slots
-    → i < length slots → is_some (get_or slots i None) ≡ false →
-    left ≡ count_remaining flags slots → w ≡ get_or flags i false → taken ≡ bool_byte w → (taken ≤ left) ×
-    (left - taken ≡ count_remaining flags (set slots i (Some x)))
+pub fill_counts : {X : Type 0} (flags : List Bool) (slots : List (Option X)) (i : ℕ) (x : X) (w : Bool) (left taken : ℕ) →
+    length flags ≡ length slots → i < length slots → is_some (get_or slots i None) ≡ false → left ≡ count_remaining flags slots →
+    w ≡ get_or flags i false → taken ≡ bool_byte w → (taken ≤ left) × (left - taken ≡ count_remaining flags (set slots i (Some x)))
 fill_counts flags slots i x w left taken same lt free counted read byte = grind (arith, count_left_set flags slots i x same lt free)
 
 pub left_seen : (flags : List Bool) (store : PartsContent) (slots : List (Option MatchRef)) → count_remaining flags slots ≡ count_remaining flags
@@ -175,15 +150,11 @@ all_emptied slots old numbers i same le others = grind (arith, all_empty, drop_a
 
 -- no numbers are distinct
 pub distinct_none : (numbers : List ℕ) → numbers ≡ [] → IsDistinct nat_eq numbers
-distinct_none numbers none = rw none (IsDistinct-from_apart nat_eq [] (λ i j d lt within. absurd (omega (arith, within))))
+distinct_none numbers none = grind (arith, IsDistinct-from_apart)
 
 -- empty slots need no number
 pub empty_listed : {X Y : Type 0} (slots : List (Option X)) (xs : List Y) → slots ≡ map (λ x. None) xs → AreListed slots []
-empty_listed {X} slots xs e = record {
-  filled = All-nil (λ n. is_some (get_or slots n None) ≡ true);
-  distinct = distinct_none [] refl;
-  others = λ a none. ap (λ l. get_or l a None) e ∙ none_at X xs a;
-}
+empty_listed {X} slots xs e = grind (arith, All-nil, distinct_none, none_at)
 
 -- a slot that was free is filled, and its number listed
 pub listed_more : {X : Type 0} (slots : List (Option X)) (numbers : List ℕ) (number : ℕ) (x : X) → number < length slots →
@@ -216,9 +187,7 @@ listed_more slots numbers number x within free listed = record {
 -- a listed number is that of a slot
 pub listed_within : {X : Type 0} (slots : List (Option X)) (numbers : List ℕ) (index : ℕ) → AreListed slots numbers → index < length numbers →
     get_or numbers index 0 < length slots
-listed_within slots numbers index listed within =
-    let filled = All-get_or (λ n. is_some (get_or slots n None) ≡ true) numbers index 0 within listed.filled in
-    grind (arith, get_or_past, cases_lt)
+listed_within slots numbers index listed within = grind (arith, All-get_or, get_or_past, cases_lt)
 
 -- slots that were emptied are as many as flags when they are resized
 pub empty_resized : {X Y : Type 0} (old : List Y) (emptied resized : List (Option X)) (n count : ℕ) (flags : List Bool) →

@@ -8,7 +8,7 @@ use Rattle.std.proofs.lemmas.List.{map-append, append-nil}
 use Rattle.std.proofs.lemmas.Grind.{flat_map-append}
 use Rattle.attr_wildmatch.proofs.ForCallers.{by_test}
 use Rattle.attr_table.specs.Setting.{Item, Origin, Line, Setting}
-use Rattle.attr_table.specs.Table.{Occurrence, Root, Inside, Table, Slots, line_at, item_at, IsLive, IsEarliest, IsStable}
+use Rattle.attr_table.specs.Table.{Occurrence, Root, Inside, Table, Slots, line_at, item_at, IsEarliest, IsStable}
 use Rattle.attr_table.specs.Cut.{is_done, origin_at, answer_at, IsCut, IsCutAt}
 use Rattle.attr_table.specs.shared.Walk.{Task, Walks, ends, stops, skips, fills, tasks_in, line_tasks, list_tasks, tasks_of, opened, fill}
 use Rattle.attr_table.proofs.ForCallers.{some_or_none, entry_is, none_value, fill_other, then_walks, walked_searched, OneTable-of}
@@ -30,19 +30,16 @@ done_alike : (wanted : List ℕ) (x y : Slots) → Alike x y → is_done wanted 
 done_alike [] x y same = refl
 done_alike (w ∷ wanted) x y same = grind (arith, done_alike wanted x y same)
 
-fill_alike : (bodies : List (List Item)) (g : Origin) (t : Task) (x y : Slots) → Alike x y →
-    Alike (fill bodies (retag g t) x) (fill bodies t y)
+fill_alike : (bodies : List (List Item)) (g : Origin) (t : Task) (x y : Slots) → Alike x y → Alike (fill bodies (retag g t) x) (fill bodies t y)
 unfolding retag
 fill_alike bodies g t x y same a = grind arith
 
-retag-tasks : (g origin : Origin) (cause : Option ℕ) (items : List Item) →
-    map (retag g) (tasks_in origin cause items) ≡ tasks_in g cause items
+retag-tasks : (g origin : Origin) (cause : Option ℕ) (items : List Item) → map (retag g) (tasks_in origin cause items) ≡ tasks_in g cause items
 unfolding retag
 retag-tasks g origin cause [] = refl
 retag-tasks g origin cause (i ∷ items) = grind (arith, map-append, retag, retag-tasks g origin cause items)
 
-retag-opened : (bodies : List (List Item)) (g : Origin) (t : Task) →
-    map (retag g) (opened bodies t) ≡ opened bodies (retag g t)
+retag-opened : (bodies : List (List Item)) (g : Origin) (t : Task) → map (retag g) (opened bodies t) ≡ opened bodies (retag g t)
 unfolding retag
 retag-opened bodies g t = grind (arith, retag-tasks)
 
@@ -55,8 +52,7 @@ record Retagged (g : Origin) (bodies : List (List Item)) (wanted : List ℕ) (ts
   tagged : (a : ℕ) → before a ≡ None → MatchOption (final a) ⊤ (λ x. x.origin ≡ g)
 
 retagged : (g : Origin) (bodies : List (List Item)) (wanted : List ℕ) {ts : List Task} {slots after : Slots} →
-    Walks bodies (is_done wanted) ts slots after → (before : Slots) → Alike before slots →
-    Retagged g bodies wanted ts before after
+    Walks bodies (is_done wanted) ts slots after → (before : Slots) → Alike before slots → Retagged g bodies wanted ts before after
 unfolding retag
 retagged g bodies wanted ends before same =
     record { final = before; walks = ends; alike = same; kept = λ a e. refl; tagged = λ a e. rw e tt }
@@ -200,15 +196,13 @@ lists_tagged i [] = refl
 lists_tagged i (lines ∷ lists) = grind (arith, flat_map-append, retag, tag_of, groups_tagged, lists_tagged (suc i) lists)
 
 -- what is read at an index of the tagged setting
-line_in : (i j k n : ℕ) (lines : List Line) → n ≡ j + k →
-    slice_get (tagged_lines i j lines) k ≡ option_map (tagged_line (i, n)) (slice_get lines k)
+line_in : (i j k n : ℕ) (lines : List Line) → n ≡ j + k → slice_get (tagged_lines i j lines) k ≡ option_map (tagged_line (i, n)) (slice_get lines k)
 unfolding tagged_lines
 line_in i j k n [] e = refl
 line_in i j zero n (l ∷ lines) e = let h : j ≡ n = omega arith in ap (λ m. Some (tagged_line (i, m) l)) h
 line_in i j (suc k) n (l ∷ lines) e = line_in i (suc j) k n lines (omega arith)
 
-lines_in : (i k n : ℕ) (lists : List (List Line)) → n ≡ i + k →
-    slice_get (tagged_lists i lists) k ≡ option_map (tagged_lines n 0) (slice_get lists k)
+lines_in : (i k n : ℕ) (lists : List (List Line)) → n ≡ i + k → slice_get (tagged_lists i lists) k ≡ option_map (tagged_lines n 0) (slice_get lists k)
 unfolding tagged_lists
 lines_in i k n [] e = refl
 lines_in i zero n (lines ∷ lists) e = let h : i ≡ n = omega arith in ap (λ m. Some (tagged_lines m 0 lines)) h
@@ -223,34 +217,22 @@ unfolding tagged_setting tagged_line
 same_item s (Root i j k) = grind (arith, tagged_line_at, tagged_line)
 same_item s (Inside parent index) = grind (arith, same_item s parent)
 
-tagged_origin : (s : Setting) (o : Occurrence) (i : Item) → item_at s o ≡ Some i →
-    origin_at (tagged_setting s) o ≡ Some (tag_of (root_line o))
+tagged_origin : (s : Setting) (o : Occurrence) (i : Item) → item_at s o ≡ Some i → origin_at (tagged_setting s) o ≡ Some (tag_of (root_line o))
 unfolding tagged_line
 tagged_origin s (Root i j k) x e = grind (arith, tagged_line_at, tagged_line, tag_of)
 tagged_origin s (Inside parent index) x e = grind (arith, some_or_none, tagged_origin s parent)
 
-live_back : (s : Setting) (table : Table) (o : Occurrence) (i : Item) → IsLive (tagged_setting s) table o i → IsLive s table o i
-live_back s table o i live = grind (arith, same_item)
-
-live_there : (s : Setting) (table : Table) (o : Occurrence) (i : Item) → IsLive s table o i → IsLive (tagged_setting s) table o i
-live_there s table o i live = grind (arith, same_item)
-
 earliest_there : (s : Setting) (table : Table) (a : ℕ) (entry : Option Occurrence) → IsEarliest s table a entry →
     IsEarliest (tagged_setting s) table a entry
-earliest_there s table a None h = λ o i live. h o i (live_back s table o i live)
-earliest_there s table a (Some o) h = (
-  (h.0.0, live_there s table o h.0.0 h.0.1, h.0.2),
-  λ p i live of. h.1 p i (live_back s table p i live) of,
-)
+earliest_there s table a entry h = grind (arith, same_item)
 
 stable_there : (s : Setting) (start : Slots) (table : Table) → IsStable s start table → IsStable (tagged_setting s) start table
 stable_there s start table stable a = grind (arith, tagged_setting, earliest_there)
 
 -- an entry's slot is filled at the line where its root stands
-root_is : (s : Setting) (start final : Slots) (table : Table) (wanted : List ℕ) (a : ℕ) (o : Occurrence) (t : ℕ × ℕ) →
-    IsStable s start table → IsCut (tagged_setting s) start table wanted final → table a ≡ Some o → start a ≡ None →
-    is_some (final a) ≡ true → MatchOption (final a) ⊤ (λ v. v.origin ≡ tag_of t) →
-    (t.0 ≡ (root_line o).0) × (t.1 ≡ (root_line o).1)
+root_is : (s : Setting) (start final : Slots) (table : Table) (wanted : List ℕ) (a : ℕ) (o : Occurrence) (t : ℕ × ℕ) → IsStable s start table →
+    IsCut (tagged_setting s) start table wanted final → table a ≡ Some o → start a ≡ None → is_some (final a) ≡ true →
+    MatchOption (final a) ⊤ (λ v. v.origin ≡ tag_of t) → (t.0 ≡ (root_line o).0) × (t.1 ≡ (root_line o).1)
 unfolding tag_of
 root_is s start final table wanted a o t stable cut e free some tagged =
     let entry = (entry_is s start table stable a o e).0 in

@@ -1,13 +1,12 @@
 -- How many flags are set.
 use Rattle.std.proofs.Common.{◌≡◌, ℕ, suc, ◌+◌, ◌<◌, ◌≤◌, Bool, true, false, not, cond, List, [], ◌∷◌, length, get_or, set, map, replicate}
-use Rattle.std.proofs.Common.{None, sym, ap, ◌∙◌, arith, ◌++◌, ◌⊎◌, ◌≢◌, ◌||◌}
+use Rattle.std.proofs.Common.{None, sym, ◌∙◌, arith, ◌⊎◌, ◌≢◌}
 use mathlib.Core.Bool.{beq}
 use mir.Val.{bool_byte}
 use Rattle.std.proofs.Math.Bool.{or-false, or-true}
 use Rattle.std.proofs.lemmas.List.{length-set, get_or-replicate, get_or-set_other, get_or-set_same, length-replicate}
 use Rattle.std.proofs.lemmas.List.Sums.{sum_by-cons, sum_by-set}
 use Rattle.std.specs.Prelude.{if◌then◌else◌}
-use Rattle.std.proofs.lemmas.List.Folds.{list_any-append}
 use Rattle.std.specs.BTreeMap.{is_at}
 use Rattle.std.specs.BTreeSet.{contains}
 use Rattle.std.specs.List.{list_any}
@@ -38,8 +37,7 @@ count_replicate n w = grind arith
 
 -- one more is set, if it wasn't before
 pub count_set : (flags : List Bool) (number count more : ℕ) (w : Bool) → number < length flags → count ≡ count_wanted flags →
-    w ≡ get_or flags number w → more ≡ bool_byte (not w) →
-    (count + more ≤ length flags) × (count + more ≡ count_wanted (set flags number true))
+    w ≡ get_or flags number w → more ≡ bool_byte (not w) → (count + more ≤ length flags) × (count + more ≡ count_wanted (set flags number true))
 count_set flags number count more w lt counted read told =
     grind (arith, count_small (set flags number true), length-set flags number true, sum_by-set)
 
@@ -58,7 +56,7 @@ length_flags w = length-map-range_with_len (is_flag_set w) 0 w.len
 pub flags_same : (w : Inside) → w.numbers.keys ≡ [] → wanted_flags_view w ≡ replicate w.len w.all
 flags_same w none =
     sym (fill_by_all (is_flag_set w) (replicate w.len w.all) w.len false (length-replicate w.len w.all)
-    (λ k lt. get_or-replicate w.len k w.all false lt ∙ sym (ap (λ ks. w.all || list_any (is_at (nat_cmp k)) ks) none ∙ or-false w.all)))
+    (λ k lt. grind (arith, get_or-replicate, or-false)))
 
 -- one more flag is set
 pub flags_more : (w v : Inside) (number : ℕ) → number < w.len → v.len ≡ w.len → v.all ≡ w.all → contains nat_cmp v.numbers number ≡ true →
@@ -83,30 +81,10 @@ count_empty X flags xs e = grind arith
 abbrev pub after_set : List ℕ → Bool → ℕ → Bool → Bool
 after_set seen value number before = if list_any (is_at (nat_cmp number)) seen then value else before
 
--- one more flag is set
-pub one_set : (flags : List Bool) (seen : List ℕ) (a n : ℕ) (value before : Bool) → a < length flags →
-    get_or flags a false ≡ after_set seen value a before →
-    get_or (set flags n value) a false ≡ after_set (seen ++ n ∷ []) value a before
-one_set flags seen a n value before lt so_far =
-    grind (arith, get_or-set_same, list_any-append, or-true, get_or-set_other, at_other, or-false, cases_eq)
-
--- and none of a number past the flags
-pub none_set : (flags : List Bool) (seen : List ℕ) (a n : ℕ) (value before : Bool) → a < length flags → length flags ≤ n →
-    get_or flags a false ≡ after_set seen value a before → get_or flags a false ≡ after_set (seen ++ n ∷ []) value a before
-none_set flags seen a n value before lt past so_far = grind (arith, list_any-append, at_other, or-false)
-
-if_set : (b value : Bool) → (if b then true else value) ≡ (b || value)
-if_set b value = grind arith
-
 -- flags that are all set, or cleared, and then set at some numbers are those of these numbers
 pub written_flags : (w : Inside) (flags : List Bool) → length flags ≡ w.len →
     ((a : ℕ) → a < length flags → get_or flags a false ≡ after_set w.numbers.keys true a w.all) → flags ≡ wanted_flags_view w
-written_flags w flags same at =
-    fill_by_all (is_flag_set w) flags w.len false same
-    (λ k lt. at k (omega (arith, same, lt)) ∙ if_set (contains nat_cmp w.numbers k) w.all ∙ swap (contains nat_cmp w.numbers k) w.all)
-  where
-    swap : (a b : Bool) → (a || b) ≡ (b || a)
-    swap a b = grind (arith, or-true, or-false)
+written_flags w flags same at = fill_by_all (is_flag_set w) flags w.len false same (λ k lt. grind (arith, or-true, or-false))
 
 -- a flag is that of all, or where these are the same it is as it was
 abbrev pub IsBase : Inside → Inside → ℕ → Bool → Type 0
@@ -115,8 +93,7 @@ IsBase w v a flag = (flag ≡ w.all) ⊎ ((w.all ≡ v.all) × (flag ≡ is_flag
 pub base_set : (w v : Inside) (a : ℕ) (flag : Bool) → w.all ≡ true → IsBase w v a flag → flag ≡ w.all
 base_set w v a flag all base = grind arith
 
-pub base_cleared : (w v : Inside) (a : ℕ) (flag : Bool) → w.all ≡ false → IsBase w v a flag →
-    after_set v.numbers.keys false a flag ≡ w.all
+pub base_cleared : (w v : Inside) (a : ℕ) (flag : Bool) → w.all ≡ false → IsBase w v a flag → after_set v.numbers.keys false a flag ≡ w.all
 base_cleared w v a flag none base = grind arith
 
 pub beq_same : (a b : Bool) → beq a b ≡ true → a ≡ b

@@ -10,7 +10,6 @@ pub mod Searched
 pub mod SlotsView
 pub mod WantedView
 pub mod BaseKeys
-pub mod Counting
 pub mod DirectoryKeys
 pub mod FrontHashers
 pub mod KeyLinks

@@ -1,10 +1,10 @@
 -- Which numbers have a key (own). Nothing here has to be believed.
-use Rattle.std.specs.Prelude.{◌≡◌, ℕ, ◌<◌, ◌≤◌, ⊤, List, Contains, MatchOption, Option, Some, slice_get}
+use Rattle.std.specs.Prelude.{◌≡◌, ℕ, zero, suc, List, Contains, Option, Some, None, cond, nat_eq, slice_get, slice_index}
 
--- of the numbers below a bound that have a key, this is the greatest, if there is one
-pub record IsLatest (keys : List ℕ) (bound key : ℕ) (latest : Option ℕ) : Type 0 where
-  pub has : MatchOption latest ⊤ (λ n. (n < bound) × (slice_get keys n ≡ Some key))
-  pub greatest : (number : ℕ) → number < bound → slice_get keys number ≡ Some key → MatchOption latest ⊥ (λ n. number ≤ n)
+-- the greatest number below a bound that has the key, if there is one
+abbrev pub latest_below : List ℕ → ℕ → ℕ → Option ℕ
+latest_below keys key zero = None
+latest_below keys key (suc n) = cond (nat_eq (slice_index keys n) key) (Some n) (latest_below keys key n)
 
 -- the numbers that have a key are there, and those that were there before
 pub record AppendsKeyed (keys : List ℕ) (key : ℕ) (before after : List ℕ) : Type 0 where

@@ -4,18 +4,18 @@ use Rattle.std.specs.HashMap.{get, spare}
 use Rattle.attr_search.specs.declared.numbers_by_key.Link.{Link}
 use Rattle.attr_search.specs.declared.numbers_by_key.NumbersByKey.TheInside.{Inside}
 use Rattle.attr_search.specs.KeyedNumbers.{KeyedNumbers}
-use Rattle.attr_search.specs.inner.KeyLinks.{IsLatest}
+use Rattle.attr_search.specs.inner.KeyLinks.{latest_below}
 
 abbrev pub link_keys : List Link → List ℕ
 link_keys links = map (λ l. l.key) links
 
 -- for each key the greatest number that has it
 abbrev pub AreLatest : List Link → (ℕ → Option ℕ) → Type 0
-AreLatest links latest = (key : ℕ) → IsLatest (link_keys links) (length links) key (latest key)
+AreLatest links latest = (key : ℕ) → latest key ≡ latest_below (link_keys links) key (length links)
 
 -- each link leads to the greatest smaller number of its key
 abbrev pub LeadOn : List Link → Type 0
-LeadOn links = (number : ℕ) (link : Link) → slice_get links number ≡ Some link → IsLatest (link_keys links) number link.key link.earlier
+LeadOn links = (number : ℕ) (link : Link) → slice_get links number ≡ Some link → link.earlier ≡ latest_below (link_keys links) link.key number
 
 abbrev pub numbers_view : Inside → KeyedNumbers
 numbers_view s =

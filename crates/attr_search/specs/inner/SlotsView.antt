@@ -1,7 +1,6 @@
 -- The answers in slots and the bodies, that the indexes they refer to are in use, that the numbers of filled slots are listed, and that
 -- bodies fit (own).
-use Rattle.std.specs.Prelude.{◌≡◌, ℕ, ◌≤◌, ◌+◌, ◌&&◌, Bool, true, false, List, length, All, Option, None, is_none}
-use Rattle.std.specs.Prelude.{◌-◌, slice_index_or}
+use Rattle.std.specs.Prelude.{◌≡◌, ℕ, ◌≤◌, ◌+◌, ◌&&◌, Bool, true, false, List, length, All, Option, None, is_none, ◌-◌, slice_index_or}
 use Rattle.std.specs.List.Sorted.{IsStrictlyIncreasing}
 use Rattle.attr_search.specs.SearchContents.{SearchContents}
 use Rattle.attr_search.specs.shared.SlotContents.{AreFlagsAmong, AreListed, count_remaining}

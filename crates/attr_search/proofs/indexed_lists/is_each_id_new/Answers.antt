@@ -1,4 +1,4 @@
-use Rattle.std.proofs.Common.{◌≡◌, ℕ, true, false, List, [], ◌∷◌, nat_eq, refl, arith}
+use Rattle.std.proofs.Common.{◌≡◌, ℕ, true, false, List, [], ◌∷◌, nat_eq, arith}
 use Rattle.std.proofs.lemmas.Bool.Decides.{nat_tests}
 use Rattle.std.proofs.lemmas.List.{nil_from_length}
 use Rattle.std.proofs.lemmas.Map.Keys.{IsDistinct-cons, IsDistinct-head, IsDistinct-tail, IsDistinct-from_apart}
@@ -41,7 +41,4 @@ returns-then-has_id c =
     )
 
 pub returns : goal.returns
-returns c =
-    let none : c.loop-list.left.now ≡ [] = nil_from_length c.loop-list.left.now c.in_default.ensures.cases in
-    let before = rw none at c.loop-list.invariant in
-    (λ t. before.0 (IsDistinct-from_apart nat_eq [] (λ i j d lt within. absurd (omega (arith, within)))), λ distinct. refl)
+returns c = grind (arith, nil_from_length, IsDistinct-from_apart)

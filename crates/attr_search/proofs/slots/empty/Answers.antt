@@ -1,4 +1,4 @@
-use Rattle.std.proofs.Common.{arith}
+use Rattle.std.proofs.Common.{rules, arith}
 use Rattle.std.proofs.lemmas.List.{length-set}
 use Rattle.attr_search.proofs.SlotLemmas.{all_emptied, listed_within, none_at, one_emptied}
 use Rattle.attr_search.proofs.OpenLemmas.{all_open, open_emptied}
@@ -10,9 +10,7 @@ loop-number-preserved c =
     grind (arith, length-set, one_emptied, open_emptied, within)
 
 pub returns-clause-items : goal.returns-clause-items
-returns-clause-items c =
-    all_emptied c.loop-number.slots.items c.args.slots.now.items c.args.numbers.now c.loop-number.number-index c.loop-number.invariant.same_length
-    c.loop-number-test.false c.loop-number.invariant.others
+returns-clause-items c = search (rules, all_emptied)
 
 pub returns-clause-opened : goal.returns-clause-opened
 returns-clause-opened c = λ needed same sound all.

@@ -1,7 +1,11 @@
-use Rattle.std.proofs.Common.{subst}
+use Rattle.std.proofs.Common.{arith, nat_eq, subst}
+use Rattle.std.specs.HashMap.{get}
 use Rattle.attr_search.specs.inner.NumbersView.{link_keys}
-use Rattle.attr_search.proofs.KeyedLemmas.{CoversDown, link_at, walk_on, walk_shorter}
+use Rattle.attr_search.proofs.KeyedLemmas.{CoversDown, link_at, walk_on, walk_shorter, walk_start}
 use Rattle.attr_search.proofs.numbers_by_key.NumbersByKey.append.Goals as goal
+
+pub loop-next-init : goal.loop-next-init
+loop-next-init c = walk_start _ (get nat_eq c.self.inside.latest) _ _ _ c.self.invariant.latest (grind arith)
 
 pub loop-next-smaller : goal.loop-next-smaller
 loop-next-smaller c =

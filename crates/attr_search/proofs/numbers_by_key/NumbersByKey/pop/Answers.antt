@@ -1,6 +1,6 @@
 use Rattle.std.proofs.Common.{arith, nat_eq}
 use Rattle.std.specs.HashMap.{get}
-use Rattle.attr_search.proofs.KeyedLemmas.{last_present, popped_latest, popped_lead}
+use Rattle.attr_search.proofs.KeyedLemmas.{popped_latest, popped_lead}
 use Rattle.attr_search.proofs.numbers_by_key.NumbersByKey.pop.Goals as goal
 
 pub invariant_of-self-in-Ok : goal.invariant_of-self-in-Ok
@@ -11,11 +11,6 @@ invariant_of-self-in-Ok c =
           (λ key. grind arith);
       links = popped_lead c.self.inside.links.items c.pop.new.self.items c.in-Some.link c.in-Some.ensures.items c.self.invariant.links;
     }
-
-pub unreachable-requires : goal.unreachable-requires
-unreachable-requires c =
-    last_present c.self.inside.links.items c.pop.new.self.items c.in-Some.link (get nat_eq c.self.inside.latest) c.in-Some.ensures.items
-    c.self.invariant.latest c.in-Err.ensures.absent
 
 pub invariant_of-self-in-None : goal.invariant_of-self-in-None
 invariant_of-self-in-None c =

@@ -13,16 +13,13 @@ returns-in_default c = grind (arith, state_kept, line_defines)
 
 pub last_free-requires-clause-slots : goal.last_free-requires-clause-slots
 last_free-requires-clause-slots c =
-    slots_at _ c.args.list.now.list.patterns.items c.args.index c.index-mapping.result.now c.in-Some.items.now c.requires.index
-    c.index-mapping.ensures c.in-Some.ensures.items c.requires.in_lines
+    slots_at _ c.args.list.now.list.patterns.items _ _ _ c.requires.index c.index-mapping.ensures c.in-Some.ensures.items c.requires.in_lines
 
 pub returns-then-is_none : goal.returns-then-is_none
 returns-then-is_none c = record {
   kept = state_kept c.args.self.now.slots;
-  done = line_filled c.args.rest c.args.list.now c.args.index c.index-mapping.result.now c.in-Some.items.now c.args.self.now.slots
-      c.requires.index c.index-mapping.ensures c.in-Some.ensures.items
-      (none_told _ (open_slots c.args.self.now.slots) c.in-Some.items.now c.last_free.result c.last_free.ensures
-      c.if-is_none.ensures);
+  done = line_filled c.args.rest c.args.list.now c.args.index _ c.in-Some.items.now _ c.requires.index c.index-mapping.ensures
+      c.in-Some.ensures.items (none_told _ (open_slots c.args.self.now.slots) _ _ c.last_free.ensures c.if-is_none.ensures);
 }
 
 pub returns-then-not-branch : goal.returns-then-not-branch
@@ -34,11 +31,6 @@ returns-then-not-branch c =
           (line_differs c.args.rest (listed_view c.args.list.now) c.args.index _ c.args.self.now.slots c.in_ok-matches.field-0
           c.in_ok-matches.ensures c.if-not-branch.true (omega (arith, rises)) (omega arith));
     }
-
-pub fill_line-requires : goal.fill_line-requires
-fill_line-requires c =
-    rw c.count_line.ensures.counted (slots_at _ c.args.list.now.list.patterns.items c.args.index c.index-mapping.result.now c.in-Some.items.now
-    c.requires.index c.index-mapping.ensures c.in-Some.ensures.items c.requires.in_lines)
 
 pub returns : goal.returns
 returns c =

@@ -12,12 +12,9 @@ returns-then-is_done c = grind (arith, indexes_done)
 
 pub loop-line-preserved : goal.loop-line-preserved
 loop-line-preserved c = record {
-  kept = then_kept c.args.self.now.slots c.loop-line.self.slots c.search_line.new.self.slots c.loop-line.invariant.kept c.search_line.ensures.kept;
-  searched =
-      more_indexes c.args.rest (listed_view c.args.list.now) c.args.indexes.now c.loop-line.line-index _
-      c.args.self.now.slots c.loop-line.self.slots c.search_line.new.self.slots c.loop-line.invariant.kept c.loop-line-test.true
-      (get_or_default c.args.indexes.now c.loop-line.line-index 0 _ c.loop-line-test.true)
-      c.loop-line.invariant.searched (line_of_query c.for_lines-query.result c.args.rest (listed_view c.args.list.now) _
-      c.loop-line.self.slots c.search_line.new.self.slots c.for_lines-query.ensures.path c.for_lines-query.ensures.case
-      c.for_lines-query.ensures.is_dir c.in_ok-search_line.ensures.done);
+  kept = then_kept _ _ _ c.loop-line.invariant.kept c.search_line.ensures.kept;
+  searched = more_indexes c.args.rest (listed_view c.args.list.now) c.args.indexes.now c.loop-line.line-index _ _ _ _ c.loop-line.invariant.kept
+      c.loop-line-test.true (get_or_default c.args.indexes.now c.loop-line.line-index 0 _ c.loop-line-test.true) c.loop-line.invariant.searched
+      (line_of_query c.for_lines-query.result c.args.rest (listed_view c.args.list.now) _ _ _ c.for_lines-query.ensures.path
+      c.for_lines-query.ensures.case c.for_lines-query.ensures.is_dir c.in_ok-search_line.ensures.done);
 }

@@ -1,4 +1,4 @@
-use Rattle.std.proofs.Common.{◌≡◌, ◌+◌, ◌-◌, ◌<◌, ◌∷◌, ap, arith, drop, get_or, length, subst, sym, ◌∙◌}
+use Rattle.std.proofs.Common.{rules, ◌≡◌, ◌+◌, ◌-◌, ◌<◌, ◌∷◌, ap, arith, drop, get_or, length, subst, sym, ◌∙◌}
 use Rattle.std.proofs.lemmas.List.{drop_all, drop_more}
 use Rattle.attr_search.specs.IndexedLists.{listed_view, lists_view}
 use Rattle.attr_search.specs.inner.Searched.{SearchedLists}
@@ -7,12 +7,7 @@ use Rattle.attr_search.proofs.SearchedLemmas.{nothing_searched, skip_lists, stat
 use Rattle.attr_search.proofs.search_state.SearchState.search_numbers.Goals as goal
 
 pub loop-k-init : goal.loop-k-init
-loop-k-init c = record {
-  bound = omega arith;
-  left = all_left c.args.query c.args.lists.now (length c.args.lists.now) c.args.numbers.now c.requires.numbers;
-  kept = state_kept c.args.self.now.slots;
-  searched = rw (drop_all (length c.args.lists.now) c.args.lists.now (omega arith)) (nothing_searched _ c.args.self.now.slots);
-}
+loop-k-init c = search (rules, drop_all, all_left, state_kept, nothing_searched)
 
 pub returns-then-is_done : goal.returns-then-is_done
 returns-then-is_done c = grind (arith, lists_done)
@@ -43,17 +38,15 @@ loop-k-preserved-then-number-bound c =
     let back : c.loop-k.k ≡ c.loop-k.k - 1 + 1 = omega (arith, more) in
     let left = subst (λ n. AreLeft query lists c.loop-k.bound n numbers) back inv.left in
     let apart = apart_above query lists c.loop-k.bound (c.loop-k.k - 1) numbers (omega (arith, more, most)) c.requires.numbers.rising left in
-    let after = skip_lists query lists (number + 1) c.loop-k.bound c.args.self.now.slots c.loop-k.self.slots inv.kept (omega (arith, lt)) apart
-    inv.searched in
+    let after = skip_lists query lists (number + 1) c.loop-k.bound _ _ inv.kept (omega (arith, lt)) apart inv.searched in
     let from : drop number lists ≡ list ∷ drop (number + 1) lists =
     drop_more lists number list below ∙ ap (λ l. l ∷ drop (number + 1) lists) (sym c.index-lists-number.is) in
     record {
       bound = omega (arith, below);
       left = left_less query lists c.loop-k.bound number (c.loop-k.k - 1) numbers (omega (arith, lt)) (omega arith) left;
-      kept = then_kept c.args.self.now.slots c.loop-k.self.slots c.search_list.new.self.slots inv.kept c.search_list.ensures.kept;
+      kept = then_kept _ _ _ inv.kept c.search_list.ensures.kept;
       searched = subst (λ ls. SearchedLists query (lists_view ls) c.args.self.now.slots c.search_list.new.self.slots) (sym from)
-          (more_lists query (listed_view list) (lists_view (drop (number + 1) lists)) c.args.self.now.slots c.loop-k.self.slots
-          c.search_list.new.self.slots inv.kept after c.in_ok-search_list.ensures.done);
+          (more_lists query (listed_view list) (lists_view (drop (number + 1) lists)) _ _ _ inv.kept after c.in_ok-search_list.ensures.done);
     }
 
 pub returns : goal.returns
@@ -62,6 +55,5 @@ returns c =
     let apart = apart_below c.args.query c.args.lists.now c.loop-k.bound c.loop-k.k c.args.numbers.now c.loop-k-test.false inv.left in
     record {
       kept = inv.kept;
-      done = skip_lists c.args.query c.args.lists.now 0 c.loop-k.bound c.args.self.now.slots c.loop-k.self.slots inv.kept (omega arith) apart
-          inv.searched;
+      done = skip_lists c.args.query c.args.lists.now 0 c.loop-k.bound _ _ inv.kept (omega arith) apart inv.searched;
     }

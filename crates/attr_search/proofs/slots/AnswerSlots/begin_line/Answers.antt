@@ -6,9 +6,6 @@ use Rattle.attr_search.proofs.PartLemmas.{grows_pushed, grows_same, last_pushed}
 use Rattle.attr_search.proofs.SlotLemmas.{matches_stay}
 use Rattle.attr_search.proofs.slots.AnswerSlots.begin_line.Goals as goal
 
-pub invariant_of-self : goal.invariant_of-self
-invariant_of-self c = grind arith
-
 pub returns-clause-begun : goal.returns-clause-begun
 returns-clause-begun c =
     let before = c.self.inside.lines.items in

@@ -5,18 +5,12 @@ use Rattle.std.proofs.lemmas.List.Elements.{All-push}
 use Rattle.attr_search.specs.declared.answer_parts.MatchRef.{MatchRef}
 use Rattle.attr_search.specs.inner.SlotsView.{kept_parts, slots_view}
 use Rattle.attr_search.specs.shared.SlotContents.{open_slots}
-use Rattle.attr_search.specs.inner.PartsView.{origin_of_line, parts_view}
-use Rattle.attr_search.proofs.PartLemmas.{answer_kept, grows_same, last_kept}
+use Rattle.attr_search.specs.inner.PartsView.{parts_view}
+use Rattle.attr_search.proofs.PartLemmas.{answer_kept, grows_same}
 use Rattle.attr_search.proofs.OpenLemmas.{open_filled, open_free, open_needed}
 use Rattle.attr_search.proofs.SlotLemmas.{listed_more, fill_counts, slots_filled, matches_filled, seen_filled}
 use Rattle.std.proofs.lemmas.Bool.{false≢true}
 use Rattle.attr_search.proofs.slots.AnswerSlots.fill.Goals as goal
-
-pub overflow_sub-line : goal.overflow_sub-line
-overflow_sub-line c =
-    let last = last_kept c.self.inside.lines.items c.len-line.result _ (omega (arith, c.len-line.ensures))
-    (rw (← c.self.view_is) at c.requires.line) in
-    omega (arith, last.0, c.len-line.ensures, length-map c.self.inside.lines.items origin_of_line)
 
 pub overflow_sub-self : goal.overflow_sub-self
 overflow_sub-self c =

@@ -1,9 +1,8 @@
 use Rattle.std.proofs.lemmas.List.Elements.{All-nil}
 use Rattle.attr_search.specs.declared.answer_parts.MatchRef.{MatchRef}
-use Rattle.std.proofs.Common.{None, ap, get_or, length, refl, sym, true, ◌∙◌, ◌≡◌, arith, false}
+use Rattle.std.proofs.Common.{None, ap, get_or, length, refl, sym, true, ◌∙◌, ◌≡◌, arith, false, Bool, List, Option, map}
 use Rattle.attr_search.specs.shared.SlotContents.{count_remaining}
 use Rattle.std.proofs.lemmas.List.{length-map}
-use Rattle.std.proofs.Common.{Bool, List, Option, map}
 use Rattle.attr_lists.specs.declared.types.TrackedAssignment.{TrackedAssignment}
 use Rattle.attr_search.specs.declared.bodies.BodyChange.{BodyChange}
 use Rattle.attr_search.specs.inner.SlotsView.{BodiesFit}
@@ -28,9 +27,7 @@ fitting bodies slots wanted changes old is cut within = record {
 }
 
 pub change-requires : goal.change-requires
-change-requires c = λ k d lt.
-    rw (length_grown c.self.inside.bodies.items c.grow.new.bodies.items c.truncate.new.self.items c.len-count.result c.in_ok-grow.ensures.ok
-    c.truncate.ensures.items ∙ c.len-count.ensures) (c.requires.numbers k d lt)
+change-requires c = grind (arith, length_grown)
 
 pub write-requires-clause-before : goal.write-requires-clause-before
 write-requires-clause-before c = λ number lt within.

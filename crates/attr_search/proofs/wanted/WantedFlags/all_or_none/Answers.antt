@@ -1,4 +1,4 @@
-use Rattle.std.proofs.Common.{arith, ◌∙◌, ap}
+use Rattle.std.proofs.Common.{rules, arith, ◌∙◌, ap}
 use Rattle.attr_search.specs.shared.SlotContents.{count_wanted}
 use Rattle.attr_search.specs.declared.wanted.WantedFlags.TheInside.{Inside}
 use Rattle.attr_search.proofs.WantedLemmas.{count_replicate, flags_same}
@@ -12,5 +12,4 @@ invariant_of-result c =
     grind (arith, then-all, else-all, c.if-all.branch)
 
 pub returns : goal.returns
-returns c =
-    flags_same (record { len = c.args.len; all = c.args.all; numbers = c.new.result; count = c.if-all.result }) c.new.ensures.empty
+returns c = search (rules, flags_same)

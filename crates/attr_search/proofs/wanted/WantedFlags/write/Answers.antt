@@ -1,12 +1,8 @@
 use Rattle.std.proofs.Common.{◌≡◌, ◌<◌, ◌≤◌, ℕ, Bool, Vec, Global, false, ap, arith, get_or, length, sym, ◌∙◌, inl}
-use Rattle.std.proofs.lemmas.Bool.{cases_eq, cases_lt}
-use Rattle.std.proofs.lemmas.List.{get_or-set_other, get_or-set_same, length-set}
+use Rattle.std.proofs.lemmas.Bool.{cases_lt}
 use Rattle.attr_search.proofs.WantedLemmas.{IsBase, after_set, base_cleared, base_set, beq_same, flag_at, length_flags, written_flags}
 use Rattle.attr_search.proofs.wanted.WantedFlags.write.Goals as goal
 use Rattle.attr_search.proofs.wanted.WantedFlags.write.Goals.{then-self-before, else-self-before, then-not-self, else-not-self}
-
-pub loop-number-preserved : goal.loop-number-preserved
-loop-number-preserved c = grind (arith, length-set, get_or-set_other, get_or-set_same, cases_lt, cases_eq)
 
 pub returns : goal.returns
 returns c =
