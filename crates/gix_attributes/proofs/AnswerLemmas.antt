@@ -1,14 +1,13 @@
 -- The answers of an engine after a search: those of the only stable table, and where they are.
 use Rattle.std.proofs.lemmas.Grind.{common_steps}
-use Rattle.std.proofs.lemmas.Bool.{cases_lt}
+use Rattle.std.proofs.lemmas.Bool.{cases_lt, cond-false, cond-true}
 use Rattle.std.proofs.lemmas.Bool.Decides.{nat_tests}
 use Rattle.std.proofs.Common.{◌≡◌, ℕ, ◌++◌, ◌-◌, append_assoc, ◌+◌, ◌<◌, ◌≤◌, Bool, true, false, List, [], ◌∷◌, length, drop, map, Option}
 use Rattle.std.proofs.Common.{All, Some, None, Result, OnOk, OnErr, filter, nat_eq, suc, take, is_some}
 use Rattle.std.proofs.Common.{⊎_elim, MatchOption, option_map, slice_get, get_or, refl, sym, ap, ◌∙◌, arith, subst, eqb-true}
 use Rattle.std.specs.Prelude.{◌==◌, ⊤, bytes_eq, if◌then◌else◌, option_and_then, unwrap_or}
-use Rattle.std.specs.List.{IsDistinct}
+use Rattle.std.specs.List.{IsDistinct, list_any}
 use Rattle.std.proofs.lemmas.List.{append-nil, drop_more, get_or_past, length-map, map-append, take_more}
-use Rattle.std.specs.List.{list_any}
 use Rattle.std.specs.List.Sorted.{IsStrictlyIncreasing, IsStrictlySortedBy}
 use Rattle.std.specs.Ordering.{nat_cmp}
 use Rattle.std.proofs.lemmas.List.Elements.{All-cons, All-tail, All-weaker, filter-append}
@@ -56,12 +55,6 @@ current_searched known before after kept current = grind (arith, nat_tests, rese
 
 -- ---- answers
 
-if_true : {X : Type 0} (b : Bool) (x y : X) → b ≡ true → (if b then x else y) ≡ x
-if_true b x y e = grind (arith, nat_tests)
-
-if_false : {X : Type 0} (b : Bool) (x y : X) → b ≡ false → (if b then x else y) ≡ y
-if_false b x y e = grind (arith, nat_tests)
-
 module _ (q : Lookup) (list_ids : List ℕ) (before after : Content)
     (same : length list_ids ≡ length q.lists) (knows : RegistersAlone q.known list_ids q.lists) (fresh : IsNarrowed q.known q.selected before)
     (searched : IsSearched (setting_for q.lists before q.path q.case q.is_dir) (wanted_of before) (answers_in before) (answers_in after))
@@ -80,7 +73,7 @@ module _ (q : Lookup) (list_ids : List ℕ) (before after : Content)
       → (length q.selected ≡ 0 → found_in after.slots ≡ answers_by_number q.known.names answers)
       → selected_in after.slots after.selection ≡ selected_answers q.known.names answers q.selected
       → returned_by after ≡ returned_answers state answers
-  returned answers b e all selected = grind (arith, nat_tests, if_true, count, eqb-true, if_false)
+  returned answers b e all selected = grind (arith, nat_tests, cond-true, count, eqb-true, cond-false)
 
   -- the answers that are returned are those of the only stable table of the lists
   pub answered : OfTheOnlyTable (path_setting state q.path q.case q.is_dir) (λ answers. returned_by after ≡ returned_answers state answers)
@@ -116,17 +109,13 @@ pub same_length : (slots : List (Option Matched)) (matches : List Matched) (numb
     → length numbers ≡ length matches
 same_length slots matches numbers numbered = grind (arith, nat_tests, length-map)
 
-some_of_some : {X : Type 0} (o p : Option X) → Some o ≡ option_map (λ y. Some y) p → o ≡ p
-some_of_some o p e = grind (arith, nat_tests)
-
 -- the answer at an index is in the slot with the number there
 pub at_index : (slots : List (Option Matched)) (matches : List Matched) (numbers : List ℕ) (i n : ℕ) → AreNumbersOf slots matches numbers
     → slice_get numbers i ≡ Some n → get_or slots n None ≡ slice_get matches i
 at_index slots matches numbers i n numbered here =
-    some_of_some (get_or slots n None) (slice_get matches i)
-    (ap (option_map (λ number. get_or slots number None)) (sym here)
-    ∙ (sym (slice_get-map (λ number. get_or slots number None) numbers i)
-    ∙ (ap (λ l. slice_get l i) numbered ∙ slice_get-map (λ m. Some m) matches i)))
+    let same = ap (λ l. slice_get l i) numbered in
+    let by_number = slice_get-map (λ number. get_or slots number None) numbers i in
+    grind (arith, nat_tests, same, by_number, slice_get-map (λ (m : Matched). Some m) matches i)
 
 -- ---- the numbers of the attributes that answers are for
 
@@ -168,10 +157,10 @@ answer_number names has held numbers i n distinct given none numbered named here
     (λ (past : (length matches ≤ i) × (slice_get matches i ≡ None)). absurd (omega (arith, past.0, within, count)))
     (slice_get_cases matches i).1
     ∙ (ap (λ l. option_and_then (number_of names) (slice_get l i))
-    (sym (if_true (length (names_selected held.selection) == 0) (map (λ (m : Matched). m.assignment.name) matches) _ no_texts))
+    (sym (cond-true (length (names_selected held.selection) == 0) (map (λ (m : Matched). m.assignment.name) matches) _ no_texts))
     ∙ sym (ap (option_and_then (λ ms. option_and_then (number_of names) (slice_get (texts_of names (names_selected held.selection) ms) i)))
-    (if_true has (Some (returned_by held)) None given
-    ∙ ap Some (if_true (length held.selection == 0) matches _ no_selection))))
+    (cond-true has (Some (returned_by held)) None given
+    ∙ ap Some (cond-true (length held.selection == 0) matches _ no_selection))))
 
 -- the answers from a number on begin with the one that has the number
 pub next_answer : {X : Type 0} (answers : Option (List X)) (i : ℕ) (x : X) → Some x ≡ option_and_then (λ xs. slice_get xs i) answers
@@ -185,7 +174,7 @@ next_answer (Some xs) i x e =
 -- what is left from a number on is its answer, if that is specified, and what is left from the next one on
 left_more : (slots : List (Option Matched)) (number : ℕ) (o : Option Matched) → number < length slots → get_or slots number None ≡ o →
     left_from slots number ≡ (if is_slot_specified o then o ∷ left_from slots (number + 1) else left_from slots (number + 1))
-left_more slots number o lt e = grind (arith, common_steps, nat_tests, drop_more, if_true, if_false)
+left_more slots number o lt e = grind (arith, common_steps, nat_tests, drop_more, cond-true, cond-false)
 
 -- one more number is looked at
 pub numbered_more : (slots : List (Option Matched)) (before after : List ℕ) (number : ℕ) → number < length slots →
@@ -199,7 +188,7 @@ pub listed_next : (test : ℕ → Bool) (listed before after : List ℕ) (index 
     after ≡ (if test (get_or listed index 0) then before ++ get_or listed index 0 ∷ [] else before) → after ≡ filter test (take (index + 1) listed)
 listed_next test listed before after index lt so_far one =
     let more = ap (filter test) (take_more listed index 0 lt) ∙ filter-append test (take index listed) (get_or listed index 0 ∷ []) in
-    grind (arith, nat_tests, more, so_far, one, append-nil, if_true, if_false)
+    grind (arith, nat_tests, more, so_far, one, append-nil, cond-true, cond-false)
 
 -- a number that is below each of others is none of them
 unlisted : (a : ℕ) (numbers : List ℕ) → All (λ n. a < n) numbers → list_any (nat_eq a) numbers ≡ false
@@ -226,7 +215,7 @@ left_listed slots from (n ∷ numbers) rising above within free =
     let rest = left_listed slots (n + 1) numbers rising.1 (λ k d lt. omega (arith, later k d lt)) (All-tail (λ m. m < length slots) n numbers within)
     (λ a le none. free a (omega (arith, le, start)) (grind (arith, nat_tests, le, none))) in
     let more = left_more slots n (get_or slots n None) inside refl in
-    grind (arith, nat_tests, over, rest, more, if_true, if_false)
+    grind (arith, nat_tests, over, rest, more, cond-true, cond-false)
 
 -- the numbers that are listed of specified answers are those of all of them
 pub listed_numbered : (slots : List (Option Matched)) (listed : List ℕ) → AreListed slots listed → IsStrictlyIncreasing listed →

@@ -1,11 +1,11 @@
 -- A collection holds a search after lists are added and removed.
-use Rattle.std.proofs.Common.{arith, ◌≡◌, ◌≢◌, ℕ, Bool, false, List, [], ◌∷◌, ◌++◌, map, refl, subst, nat_eq, Some, eq-eqb}
+use Rattle.std.proofs.Common.{arith, ◌≡◌, ◌≢◌, ℕ, Bool, false, List, [], ◌∷◌, ◌++◌, map, refl, subst, nat_eq, Some, eq-eqb, get_or}
 use Rattle.std.proofs.lemmas.Bool.Decides.{nat_tests}
 use Rattle.std.specs.Prelude.{All}
 use Rattle.std.specs.List.{AllZip, IsDistinct}
 use Rattle.std.specs.Cmp.{IsEquivalence}
 use Rattle.std.proofs.lemmas.Bool.{eqb-true}
-use Rattle.std.proofs.lemmas.List.{map-append}
+use Rattle.std.proofs.lemmas.List.{get_or-map, length-map, map-append}
 use Rattle.std.proofs.lemmas.List.Elements.{All-nil, All-cons, All-head, All-tail, All-push, All-pop, All-weaker, All-map, All-from_recursion}
 use Rattle.std.proofs.lemmas.List.Elements.{recursion_from_All}
 use Rattle.std.proofs.lemmas.List.Folds.{list_any_none}
@@ -55,15 +55,18 @@ distinct-parts (m ∷ ms) list_id d =
 apart : (x y : ℕ) → nat_eq x y ≡ false → x ≢ y
 apart x y differ same = grind (arith, nat_tests, eq-eqb)
 
-others-held : (before after : Collection) (list_id : ℕ) → OthersStayRegistered list_id before after → (lists : List IndexedList)
-    → All (λ m. nat_eq m list_id ≡ false) (list_ids_of lists) → All (IsHeldList before) lists → All (IsHeldList after) lists
-others-held before after list_id keeps [] differ held = All-nil (IsHeldList after)
-others-held before after list_id keeps (s ∷ ss) differ held =
-    All-cons (IsHeldList after) s ss
-    (keeps s.list_id (entries_view s.list.patterns.items) (apart s.list_id list_id
-    (All-head (λ m. nat_eq m list_id ≡ false) s.list_id (list_ids_of ss) differ)) (All-head (IsHeldList before) s ss held))
-    (others-held before after list_id keeps ss (All-tail (λ m. nat_eq m list_id ≡ false) s.list_id (list_ids_of ss) differ)
-    (All-tail (IsHeldList before) s ss held))
+-- what holds of each image of an element holds of the element's
+pub all_of_map : {X Y : Type 0} (P : Y → Type 0) (f : X → Y) (xs : List X) → All P (map f xs) → All (λ x. P (f x)) xs
+all_of_map P f xs h = λ k d lt. subst P (get_or-map f xs k d (f d) lt) (h k (f d) (omega (arith, lt, length-map xs f)))
+
+-- lists under other list ids stay held
+pub others_held : (before after : Collection) (list_id : ℕ) → OthersStayRegistered list_id before after → (lists : List IndexedList)
+    → All (λ m. m ≢ list_id) (list_ids_of lists) → AreHeldLists before lists → AreHeldLists after lists
+others_held before after list_id keeps lists differ are = record {
+  distinct = are.distinct;
+  held = λ k d lt. keeps (get_or lists k d).list_id (entries_view (get_or lists k d).list.patterns.items)
+      (all_of_map (λ m. m ≢ list_id) (λ (s : IndexedList). s.list_id) lists differ k d lt) (are.held k d lt);
+}
 
 -- the others stay held when the last one is removed
 pub held_less : (before after : Collection) (lists : List IndexedList) (s : IndexedList) → OthersStayRegistered s.list_id before after
@@ -71,11 +74,9 @@ pub held_less : (before after : Collection) (lists : List IndexedList) (s : Inde
 held_less before after lists s keeps held =
     let parts = distinct-parts (list_ids_of lists) s.list_id (subst (IsDistinct nat_eq)
     (map-append (λ (x : IndexedList). x.list_id) lists (s ∷ [])) held.distinct) in
-    record {
-      distinct = parts.0;
-      held = others-held before after s.list_id keeps lists parts.1
-          (All-pop (IsHeldList before) (lists ++ s ∷ []) lists (Some s) refl held.held).0;
-    }
+    others_held before after s.list_id keeps lists
+    (All-weaker (λ m. nat_eq m s.list_id ≡ false) (λ m. m ≢ s.list_id) (λ m. apart m s.list_id) (list_ids_of lists) parts.1)
+    (record { distinct = parts.0; held = (All-pop (IsHeldList before) (lists ++ s ∷ []) lists (Some s) refl held.held).0 })
 
 -- the list of each list id is registered
 IsEach : Collection → ℕ → Listed → Type 0

@@ -1,20 +1,20 @@
 -- What additions and removals keep, and what a collection registers after them.
 use Rattle.std.proofs.lemmas.Bool.Decides.{nat_tests}
 use Rattle.std.proofs.Common.{◌≡◌, ◌≢◌, ◌∙◌, ℕ, suc, ◌-◌, ◌<◌, false, eqb, List, [], ◌∷◌, ◌++◌, length, get_or, map, All}
-use Rattle.std.proofs.Common.{nat_eq, eq-eqb, slice_get, Option, Some, option_map, unwrap_or, refl, sym, ap, subst, append_assoc, arith}
+use Rattle.std.proofs.Common.{nat_eq, eq-eqb, slice_get, Option, Some, unwrap_or, refl, sym, ap, subst, append_assoc, arith}
 use Rattle.std.specs.List.{IsDistinct, range_with_len}
 use Rattle.std.proofs.lemmas.Bool.{cases_Bool, cond-true, cond-false, true≢false}
 use Rattle.std.proofs.lemmas.Grind.{flat_map-append}
-use Rattle.std.proofs.lemmas.List.{append-nil, map-append, length-map, length-append, get_or_default, ext_get_or}
-use Rattle.std.proofs.lemmas.List.Elements.{All-nil, All-cons, All-head, All-tail, All-map, All-pop, All-push, All-weaker, filter-append}
+use Rattle.std.proofs.lemmas.List.{get_or-map, append-nil, map-append, length-map, length-append, ext_get_or}
+use Rattle.std.proofs.lemmas.List.Elements.{All-head, All-tail, All-map, All-pop, All-push, All-weaker, filter-append}
 use Rattle.attr_lists.specs.Collections.{MacroDefinition, Collection}
-use Rattle.attr_lists.specs.Definitions.{IsSoundCollection, RegistersAs, bodies_named, definition_of}
+use Rattle.attr_lists.specs.Definitions.{IsSoundCollection, RegistersAs, definition_of}
 use Rattle.attr_lists.specs.Definitions.{is_registered, last_body, macro_body, of_other_lists, without_list}
 use Rattle.attr_lists.specs.ListViews.{Entry, entries_view}
 use Rattle.attr_lists.specs.Numbers.{AppendsNames, AreNamed, names_in, numbered_lines, with_names}
 use Rattle.attr_lists.specs.shared.Keeping.{IsNumbered, OthersStayRegistered, StayRegistered}
 use Rattle.attr_lists.specs.declared.types.TrackedAssignment.{TrackedAssignment}
-use Rattle.attr_lists.proofs.ForCallers.{body_named, definitions_by_name, get_or-map, held_registered, list_numbered, of_other_lists-append}
+use Rattle.attr_lists.proofs.ForCallers.{body_named, definitions_by_name, held_registered, list_numbered, of_other_lists-append}
 use Rattle.attr_lists.proofs.ForCallers.{of_other_lists-own, registered_for, removed_for, with_names-extends}
 use Rattle.attr_search.specs.IndexedLists.{list_ids_of, listed_view, lists_view}
 use Rattle.attr_search.specs.ListView.{Listed}
@@ -30,7 +30,8 @@ use Rattle.gix_attributes.specs.Registers.{no_lists, with_list_ids, without_regi
 use Rattle.gix_attributes.specs.SearchViews.{Holds, list_ids_in, lists_in}
 use Rattle.gix_attributes.specs.inner.HeldLists.{IsHeldList}
 use Rattle.gix_attributes.specs.declared.search.attributes.Search.{Search}
-use Rattle.gix_attributes.proofs.HoldsLemmas.{distinct-parts, held_lists, held_views}
+use Rattle.gix_attributes.proofs.HoldsLemmas.{distinct-parts, held_lists, held_views, others_held}
+use Rattle.std.proofs.lemmas.Option.{slice_get-map, slice_get_within}
 use Rattle.gix_attributes.proofs.SelectionLemmas.{body_at, length_bodies}
 
 -- ---- names
@@ -60,13 +61,9 @@ answers_still old new more answers h a = grind (arith, nat_tests, name_still)
 
 -- ---- numbers of names
 
-get_within : {X : Type 0} (xs : List X) (i : ℕ) (x : X) → slice_get xs i ≡ Some x → i < length xs
-get_within (y ∷ ys) (suc i) x h = let within = get_within ys i x h in omega (arith, within)
-get_within xs i x h = grind (arith, nat_tests)
-
 -- numbers of names are below the count of names
 line_covered : (names : List (List ℕ)) (e : Entry) → IsNumbered names e → IsCovered (length names) e
-line_covered names e is = grind (arith, nat_tests, All-weaker, get_within)
+line_covered names e is = grind (arith, nat_tests, All-weaker, slice_get_within)
 
 -- numbers of names still are when names are appended
 pub covered_still : (old new : List (List ℕ)) → AppendsNames old new → (lists : List Listed) → ListsAreCovered (length old) lists
@@ -95,28 +92,13 @@ adds_then one two three first second = record {
 
 -- ---- searches that are held
 
-all_of_map : {X Y : Type 0} (P : Y → Type 0) (f : X → Y) (xs : List X) → All P (map f xs) → All (λ x. P (f x)) xs
-all_of_map P f [] h = All-nil (λ x. P (f x))
-all_of_map P f (x ∷ xs) h = All-cons (λ y. P (f y)) x xs (All-head P (f x) (map f xs) h) (all_of_map P f xs (All-tail P (f x) (map f xs) h))
-
 pub stay_held : (known now : Collection) → StayRegistered known now → KeepsSearches known now
 stay_held known now stays search h =
-    let was = held_lists known search.patterns.lists.items h in
-    held_views now search.patterns.lists.items (record {
-      distinct = was.distinct;
-      held = All-weaker (IsHeldList known) (IsHeldList now) (λ s e. stays s.list_id (entries_view s.list.patterns.items) e)
-          search.patterns.lists.items was.held;
-    })
-
-others_held : (known now : Collection) (list_id : ℕ) → OthersStayRegistered list_id known now → (search : Search)
-    → All (λ m. m ≢ list_id) (list_ids_in search) → Holds known search → Holds now search
-others_held known now list_id stays search apart h =
     let items = search.patterns.lists.items in
     let was = held_lists known items h in
-    let differ = all_of_map (λ m. m ≢ list_id) (λ (s : IndexedList). s.list_id) items apart in
     held_views now items (record {
       distinct = was.distinct;
-      held = λ k d lt. stays (get_or items k d).list_id (entries_view (get_or items k d).list.patterns.items) (differ k d lt) (was.held k d lt);
+      held = λ k d lt. stays (get_or items k d).list_id (entries_view (get_or items k d).list.patterns.items) (was.held k d lt);
     })
 
 -- a list id that is free is none of a search that is held
@@ -155,23 +137,14 @@ module _ (known now : Collection) (list_id : ℕ) (entries : List Entry) (regist
       let more = with_names-extends known.names (names_in entries) in
       (more.0, names_now ∙ more.1)
 
-  -- the lines of the list have the numbers of their names
-  pub lines_named : (lines : List Entry) → lines ≡ numbered_lines now.names entries → LinesAreNamed now.names lines
-  lines_named lines lines_are =
+  -- what holds of numbered lines holds of the lines of the list
+  pub lines_numbered : (P : List (List ℕ) → Entry → Type 0) → ((names : List (List ℕ)) (e : Entry) → IsNumbered names e → P names e) →
+      (lines : List Entry) → lines ≡ numbered_lines now.names entries → All (P now.names) lines
+  lines_numbered P from lines lines_are =
       let names = with_names known.names (names_in entries) in
-      subst (LinesAreNamed now.names) (sym lines_are)
-      (subst (λ ns. LinesAreNamed ns (numbered_lines ns entries)) (sym names_now)
-      (All-weaker (IsNumbered names) (λ (e : Entry). AreNamed names e.items) (λ e is. is.items) (numbered_lines names entries)
-      (list_numbered known.names entries)))
-
-  -- and all of its numbers are numbers of names
-  lines_covered : (lines : List Entry) → lines ≡ numbered_lines now.names entries → AreCovered (length now.names) lines
-  lines_covered lines lines_are =
-      let names = with_names known.names (names_in entries) in
-      subst (AreCovered (length now.names)) (sym lines_are)
-      (subst (λ ns. AreCovered (length ns) (numbered_lines ns entries)) (sym names_now)
-      (All-weaker (IsNumbered names) (IsCovered (length names)) (line_covered names) (numbered_lines names entries)
-      (list_numbered known.names entries)))
+      subst (All (P now.names)) (sym lines_are)
+      (subst (λ ns. All (P ns) (numbered_lines ns entries)) (sym names_now)
+      (All-weaker (IsNumbered names) (P names) (from names) (numbered_lines names entries) (list_numbered known.names entries)))
 
   -- a list is registered after all others
   pub registers_more : (list : Listed) → list.lines ≡ numbered_lines now.names entries → IsSoundCollection now
@@ -190,11 +163,13 @@ module _ (known now : Collection) (entries : List Entry) (before after : List In
     named = λ h. subst (ListsAreNamed now.names) (sym (ap lists_view pushed ∙ map-append listed_view before (s ∷ [])))
         (All-push (λ (l : Listed). LinesAreNamed now.names l.lines) (lists_view before) (listed_view s)
         (lists_still known.names now.names appends (lists_view before) h)
-        (lines_named known now s.list_id entries registers (listed_view s).lines lines_are));
+        (lines_numbered known now s.list_id entries registers (λ names e. AreNamed names e.items) (λ names e is. is.items)
+        (listed_view s).lines lines_are));
     covered = λ h. subst (ListsAreCovered (length now.names)) (sym (ap lists_view pushed ∙ map-append listed_view before (s ∷ [])))
         (All-push (λ (l : Listed). AreCovered (length now.names) l.lines) (lists_view before) (listed_view s)
         (covered_still known.names now.names appends (lists_view before) h)
-        (lines_covered known now s.list_id entries registers (listed_view s).lines lines_are));
+        (lines_numbered known now s.list_id entries registers (λ names. IsCovered (length names)) line_covered
+        (listed_view s).lines lines_are));
     others = λ other apart held. (
       subst (λ ids. AreApart ids (list_ids_in other))
           (sym (ap list_ids_of pushed ∙ map-append (λ (x : IndexedList). x.list_id) before (s ∷ [])))
@@ -242,8 +217,11 @@ module _ (known now : Collection) (before after : List IndexedList) (s : Indexed
         (ap lists_view popped ∙ map-append listed_view after (s ∷ [])) h).0;
     others = λ other apart held.
         let parts = All-pop (λ m. All (λ o. o ≢ m) (list_ids_in other)) (list_ids_of before) (list_ids_of after) (Some s.list_id)
-        (ap list_ids_of popped ∙ map-append (λ (x : IndexedList). x.list_id) after (s ∷ [])) apart in
-        (parts.0, others_held known now s.list_id stays other parts.1 held);
+        (ap list_ids_of popped ∙ map-append (λ (x : IndexedList). x.list_id) after (s ∷ [])) apart in (
+          parts.0,
+          held_views now other.patterns.lists.items (others_held known now s.list_id stays other.patterns.lists.items parts.1
+              (held_lists known other.patterns.lists.items held)),
+        );
   }
 
   pub removes_removed : IsSoundCollection now → Removes (state before known) (state after now)
@@ -300,18 +278,11 @@ left_alone before after gone distinct same h =
 
 -- ---- bodies
 
-slice_get-map : {X Y : Type 0} (f : X → Y) (xs : List X) (i : ℕ) → slice_get (map f xs) i ≡ option_map f (slice_get xs i)
-slice_get-map f (x ∷ xs) (suc i) = slice_get-map f xs i
-slice_get-map f xs i = grind (arith, nat_tests)
-
 -- the bodies of definitions, without their list ids
 bodies_under : (register : List Registered) (name : List ℕ) → map (λ (d : MacroDefinition). d.body) (definitions_under register name)
     ≡ definitions_in (lists_registered register) name
 bodies_under [] name = refl
-bodies_under (r ∷ rs) name =
-    map-append (λ (d : MacroDefinition). d.body) (map (definition_of r.list_id) (bodies_named name r.list.lines)) (definitions_under rs name)
-    ∙ (ap (λ bs. bs ++ map (λ (d : MacroDefinition). d.body) (definitions_under rs name)) (unmarked r.list_id (bodies_named name r.list.lines))
-    ∙ ap (λ bs. bodies_named name r.list.lines ++ bs) (bodies_under rs name))
+bodies_under (r ∷ rs) name = grind (arith, nat_tests, map-append, unmarked, bodies_under rs name)
   where
     unmarked : (m : ℕ) (bodies : List (List TrackedAssignment)) → map (λ (d : MacroDefinition). d.body) (map (definition_of m) bodies) ≡ bodies
     unmarked m [] = refl
@@ -331,11 +302,8 @@ bodies_registered known register h =
     (λ n lt.
     let below : n < length known.names = omega (arith, lt, length_bodies known) in
     let name = get_or known.names n [] in
-    body_at known n below
-    ∙ (ap last_body (definitions_by_name known n h.sound.distinct below ∙ h.defined name)
-    ∙ (last_of (definitions_under register name) (definitions_in (lists_registered register) name) (bodies_under register name)
-    ∙ (sym (get_or-map f known.names n [])
-    ∙ get_or_default (map f known.names) n (f []) [] (omega (arith, below, length-map known.names f))))))
+    let last = last_of (definitions_under register name) (definitions_in (lists_registered register) name) (bodies_under register name) in
+    grind (arith, body_at, definitions_by_name, h.defined name, last, get_or-map, h.sound.distinct))
 
 -- the items of each body have the numbers of their names
 pub bodies_have_names : (known : Collection) → IsSoundCollection known → BodiesAreNamed known.names (bodies_of known)

@@ -1,5 +1,4 @@
 -- Marks of attributes, and the items of one attribute.
-use Rattle.std.proofs.lemmas.Grind.{common_steps}
 use Rattle.std.proofs.Common.{◌≡◌, ◌≢◌, ◌==◌, ◌||◌, ℕ, suc, ◌+◌, ◌-◌, ◌<◌, ◌≤◌, Bool, true, false, not, cond}
 use Rattle.std.proofs.Common.{List, [], ◌∷◌, ◌++◌, length, get_or, set, take, drop, replicate, BTreeSet}
 use Rattle.std.proofs.Common.{Option, Some, None, ⊎_elim, inl, inr, sym, ap, ◌∙◌, subst, leb, ltb, arith}
@@ -29,9 +28,8 @@ use Rattle.gix_attributes.specs.inner.Consistency.{AreEmptyElsewhere}
 use Rattle.gix_attributes.specs.declared.search.selected_name.SelectedName.{SelectedName}
 use Rattle.gix_attributes.specs.declared.search.needed.BodyItem.{BodyItem}
 use Rattle.gix_attributes.specs.inner.Needed.{AreClosedBut, AreNeeded, AreOwnersOf, AreOwnersSet, HasOwners, HaveBodies}
-use Rattle.gix_attributes.specs.inner.Needed.{IsClosedFor, IsClosedOver, IsFlagSet, IsMarked, SetsOnly}
+use Rattle.gix_attributes.specs.inner.Needed.{IsClosedOver, IsFlagSet, IsMarked, SetsOnly, body_item, body_items, flags_of, items_with, numbers_of}
 use Rattle.gix_attributes.proofs.SearchLaws.{repeated}
-use Rattle.gix_attributes.specs.inner.Needed.{body_item, body_items, flags_of, items_with, numbers_of}
 
 -- marks after others
 pub marked_then : (flags flags' flags'' : List Bool) (stack stack' stack'' : List ℕ) →
@@ -163,19 +161,12 @@ owner_below bodies owner =
     (λ (past : length bodies ≤ owner). grind (arith, nat_tests, All-same, get_or_past, All-nil))
     (cases_lt owner (length bodies))
 
--- the macros of items have bodies
-owners_below : (bodies : List (List TrackedAssignment)) (owners : List ℕ) → All (λ i. i.owner < length bodies) (items_with bodies owners)
-owners_below bodies [] = All-nil (λ (i : BodyItem). i.owner < length bodies)
-owners_below bodies (owner ∷ owners) = grind (arith, common_steps, nat_tests, All-append, owner_below, owners_below bodies owners)
-
--- what is closed is so over the items of bodies
-closed_over : (bodies : List (List TrackedAssignment)) (owners : List ℕ) (has : ℕ → Bool) → IsClosedFor bodies has →
-    IsClosedOver (items_with bodies owners) has
-closed_over bodies [] has closed = All-nil (λ (i : BodyItem). has i.attribute ≡ true → has i.owner ≡ true)
-closed_over bodies (owner ∷ owners) has closed =
-    All-append (λ i. has i.attribute ≡ true → has i.owner ≡ true) (body_items bodies owner) (items_with bodies owners)
-    (All-map (λ i. has i.attribute ≡ true → has i.owner ≡ true) (body_item owner) (get_or bodies owner []) (closed owner))
-    (closed_over bodies owners has closed)
+-- what holds of the items of each body holds of those of some
+all_items : (P : BodyItem → Type 0) (bodies : List (List TrackedAssignment)) (owners : List ℕ) →
+    ((owner : ℕ) → All P (body_items bodies owner)) → All P (items_with bodies owners)
+all_items P bodies [] each = All-nil P
+all_items P bodies (owner ∷ owners) each =
+    All-append P (body_items bodies owner) (items_with bodies owners) (each owner) (all_items P bodies owners each)
 
 -- the items of the macros' bodies, in another order
 pub owners_sorted : (bodies : List (List TrackedAssignment)) (macros : BTreeSet ℕ) (items : List BodyItem) → AreEmptyElsewhere macros bodies →
@@ -186,9 +177,11 @@ owners_sorted bodies macros items empty moved order =
       order = order;
       all = λ m. All-weaker (Contains all) (Contains items) (λ x on. Contains-permutation all items x moved on) (body_items bodies m)
           (bodies_had bodies macros empty m);
-      owners = All-permutation (λ i. i.owner < length bodies) all items moved (owners_below bodies macros.keys);
+      owners = All-permutation (λ i. i.owner < length bodies) all items moved
+          (all_items (λ i. i.owner < length bodies) bodies macros.keys (owner_below bodies));
       only = λ has closed. All-permutation (λ i. has i.attribute ≡ true → has i.owner ≡ true) all items moved
-          (closed_over bodies macros.keys has closed);
+          (all_items (λ i. has i.attribute ≡ true → has i.owner ≡ true) bodies macros.keys (λ owner.
+          All-map (λ i. has i.attribute ≡ true → has i.owner ≡ true) (body_item owner) (get_or bodies owner []) (closed owner)));
     }
 
 -- a closed set has the macros of an attribute that it has

@@ -7,7 +7,7 @@ use Rattle.std.specs.List.{range_with_len}
 use Rattle.std.proofs.lemmas.Bool.{cases_lt, false≢true}
 use Rattle.std.proofs.lemmas.List.{append-nil, length-map, drop_more, drop_all, get_or_past, take_all}
 use Rattle.std.proofs.lemmas.List.FromFn.{length-map-range_with_len}
-use Rattle.std.proofs.lemmas.List.Elements.{All-nil, All-cons, All-head, All-tail, All-map}
+use Rattle.std.proofs.lemmas.List.Elements.{All-nil, All-cons, All-map}
 use Rattle.std.proofs.lemmas.List.Quantifiers.{position-Some}
 use Rattle.attr_lists.specs.Collections.{Collection}
 use Rattle.attr_lists.specs.Definitions.{IsSoundCollection, macro_body}
@@ -158,8 +158,3 @@ reset_at_first known names =
 pub reset_searched : (before after : Content) → KeepsAllButAnswers before after → reset_content after ≡ reset_content before
 reset_searched before after kept =
     ap reset_content kept.rest ∙ ap (λ slots. record (reset_content before) { slots = slots }) (same_empty None after.slots before.slots kept.count)
-
--- what holds of all that is seen holds of all that it is seen of
-pub all_seen : {X Y : Type 0} (P : Y → Type 0) (f : X → Y) (xs : List X) → All P (map f xs) → All (λ x. P (f x)) xs
-all_seen P f [] p = All-nil (λ x. P (f x))
-all_seen P f (x ∷ xs) p = All-cons (λ y. P (f y)) x xs (All-head P (f x) (map f xs) p) (all_seen P f xs (All-tail P (f x) (map f xs) p))

@@ -1,37 +1,16 @@
 -- From what a search leaves of its state to what it leaves of an outcome.
-use Rattle.std.proofs.lemmas.Bool.Decides.{nat_tests}
-use Rattle.std.proofs.Common.{arith, ◌≡◌, ℕ, Bool, true, false, List, length, map, Option, None, Ok, sym, ap, ◌∙◌}
+use Rattle.std.proofs.Common.{◌≡◌, Bool, true, false, List, length, map, None, Ok, sym, ap, ◌∙◌}
 use Rattle.std.specs.Result.{is_err}
 use Rattle.std.specs.declared.result.Result.{Result}
-use Rattle.bstr.specs.BStr.{bstr_bytes}
-use Rattle.attr_wildmatch.specs.declared.case.Case.{Case}
-use Rattle.attr_search.specs.declared.path_query.PathQuery.{PathQuery}
-use Rattle.attr_search.specs.IndexedLists.{lists_view}
-use Rattle.attr_search.specs.ListView.{Listed}
-use Rattle.attr_search.specs.declared.indexed_list.IndexedList.{IndexedList}
 use Rattle.attr_search.specs.SearchContents.{SearchContents}
-use Rattle.attr_search.specs.shared.SlotContents.{wanted_numbers}
 use Rattle.gix_attributes.specs.ContentView.{outcome_view}
-use Rattle.gix_attributes.specs.Contents.{Content, reset_content, wanted_of}
-use Rattle.gix_attributes.specs.inner.Needed.{flags_of}
-use Rattle.gix_attributes.specs.Selection.{selection_view}
-use Rattle.attr_search.specs.Slots.{Matched, is_needed, slots_of}
+use Rattle.gix_attributes.specs.Contents.{Content, reset_content}
+use Rattle.attr_search.specs.Slots.{is_needed, slots_of}
 use Rattle.attr_table.specs.Skipped.{narrowed}
 use Rattle.attr_table.specs.Table.{Slots}
 use Rattle.attr_lists.specs.declared.types.TrackedAssignment.{TrackedAssignment}
 use Rattle.gix_attributes.specs.declared.search.outcome.Outcome.TheInside.{Inside}
-use Rattle.gix_attributes.proofs.OutcomeLemmas.{same_empty, wanted_by_flags}
-
--- What holds of lists, of an outcome's own state and of a query holds of what is seen of them.
-pub as_seen : (o : Inside) (held : Content) (lists searched : List IndexedList) (query : PathQuery) (path : List ℕ) (case : Case)
-    (is_dir : Option Bool) →
-    outcome_view o ≡ held → o.state.slots.wanted ≡ flags_of (selection_view o.selected.items) (length o.state.slots.answers) → searched ≡ lists →
-    bstr_bytes query.path ≡ path → query.case ≡ case → query.is_dir ≡ is_dir →
-    (P : List Listed → List (List TrackedAssignment) → List ℕ → List Bool → List (Option Matched) → List ℕ → Case → Option Bool → Type 0) →
-    P (lists_view searched) o.state.slots.bodies (wanted_numbers o.state.slots.wanted) o.state.slots.needed o.state.slots.answers
-    (bstr_bytes query.path) query.case query.is_dir →
-    P (lists_view lists) held.bodies (wanted_of held) held.needed held.slots path case is_dir
-as_seen o held lists searched query path case is_dir view wanted e p c d P known = grind (arith, nat_tests, wanted_by_flags)
+use Rattle.gix_attributes.proofs.OutcomeLemmas.{same_empty}
 
 -- the slots of a state as the table has them
 abbrev pub slots_seen : SearchContents → Slots

@@ -7,6 +7,7 @@ use Rattle.std.proofs.lemmas.List.Elements.{same_from_all_zip}
 use Rattle.std.proofs.lemmas.Bool.{cases_eq, cases_lt}
 use Rattle.std.proofs.lemmas.List.{ext_get_or, get_or-set_other, get_or-set_same, get_or_past, get_or-take, take_more}
 use Rattle.attr_lists.specs.shared.MacroNumbers.{ListsMacros}
+use Rattle.gix_attributes.proofs.SearchLaws.{repeated}
 use Rattle.attr_search.proofs.ForCallers.{at_other, length_changed, length_sized}
 use Rattle.std.proofs.Common.{ap, refl, sym, ◌∙◌, arith, replicate}
 use Rattle.std.specs.Bool.{Decides}
@@ -66,13 +67,9 @@ changed_push : (changes : List BodyChange) (change : BodyChange) (bodies : List 
 changed_push [] change bodies = refl
 changed_push (c ∷ changes) change bodies = changed_push changes change (set bodies c.number (defined_items c.body))
 
-none_more : (n k : ℕ) → get_or {A = List TrackedAssignment} (replicate n []) k [] ≡ []
-none_more (suc n) (suc k) = none_more n k
-none_more n k = grind (arith, nat_tests)
-
 padded_at : (bodies : List (List TrackedAssignment)) (n k : ℕ) → get_or (bodies ++ replicate n []) k [] ≡ get_or bodies k []
 padded_at (b ∷ bodies) n (suc k) = padded_at bodies n k
-padded_at bodies n k = grind (arith, nat_tests, none_more)
+padded_at bodies n k = grind (arith, nat_tests, repeated)
 
 -- a body stays what it was
 pub sized_at : (count : ℕ) (bodies : List (List TrackedAssignment)) (k : ℕ) → k < count → get_or (sized_bodies count bodies) k [] ≡ get_or bodies k []

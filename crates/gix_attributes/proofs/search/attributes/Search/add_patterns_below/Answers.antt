@@ -51,10 +51,7 @@ returns-in_err-indexed-clause-held c held =
     ∙ names_back (kept_list_where c.args.list.allow_macros c.args.list.buffer.now) (entries_view c.in_ok-patterns.patterns.items)
     c.args.collection.now c.read_lines.new.self c.len-count.result c.len-count.ensures.count
     c.in_ok-patterns.ensures.read.numbered c.in_ok-patterns.ensures.lists in
-    let lists = c.reserve.new.self.lists.items in
-    held_views c.register.new.self lists (subst (λ known. AreHeldLists known lists) (sym same)
-    (subst (AreHeldLists c.args.collection.now) (sym c.in_ok-reserve.ensures.lists)
-    (held_lists c.args.collection.now c.args.self.now.patterns.lists.items held)))
+    rw (same, c.in_ok-reserve.ensures.lists) held
 
 -- what the lines of the buffer are in the collection as it was passed
 record IsAdded (before after : Collection) (entries : List Entry) (indexed : IndexedList) : Type 0 where

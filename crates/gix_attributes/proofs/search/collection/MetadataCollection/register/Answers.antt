@@ -1,9 +1,4 @@
-use Rattle.std.proofs.Common.{All, subst, sym, ap, ◌∙◌}
-use Rattle.attr_lists.specs.Collections.{Collection}
-use Rattle.attr_lists.specs.Definitions.{IsSoundCollection}
-use Rattle.attr_lists.specs.ListViews.{entries_view}
-use Rattle.attr_lists.specs.shared.Keeping.{IsNumbered}
-use Rattle.attr_lists.specs.shared.Reading.{with_first}
+use Rattle.std.proofs.Common.{subst}
 use Rattle.gix_attributes.specs.inner.Registering.{Registers}
 use Rattle.gix_attributes.proofs.search.collection.MetadataCollection.register.Goals as goal
 
