@@ -1,6 +1,6 @@
 #!/bin/sh
 # Gathers the library for C in a directory, and runs its clients: in C as gcc and clang compile them, and in Python. Each
-# script of examples/ and of crates/rows/data/scripts is played by calls, and gives the answers beside it. Each request
+# script of examples/ and of tests/tables.py is played by calls, and gives the answers beside it. Each request
 # for memory is refused in turn, and 32 KB of stack have to be enough. One engine goes round eight threads. Random calls
 # give what their scripts give, those of a work tree what git gives, and so do the clients that tell the paths of
 # commits. What clang would show is left out if the machine lacks it.
@@ -50,14 +50,9 @@ names
 state
 printf 'text: set\neol: lf\n' >"$room/first.answers"
 
-# Plays the scripts that are named in pairs with their answers.
-plays() {
-    grep -a '^script ' "$top/crates/rows/data/scripts/manifest" | while read -r kind name rest; do
-        echo "$top/crates/rows/data/scripts/$name.in $top/crates/rows/data/scripts/$name.out"
-    done
-    for script in "$top"/examples/*.script; do echo "$script ${script%.script}.answers"; done
-}
-plays >"$room/scripts"
+mkdir "$room/tables"
+PYTHONDONTWRITEBYTECODE=1 "$top/tests/tables.py" "$room/tables"
+for script in "$room"/tables/*.script "$top"/examples/*.script; do echo "$script ${script%.script}.answers"; done >"$room/scripts"
 
 # Compiles the clients, and runs them.
 clients() {
@@ -137,6 +132,6 @@ if has valgrind 'reads and writes of memory that is not there, and leaks'; then
 fi
 if has clang 'the clients as it compiles them'; then clients clang; fi
 YEKTROD_LIBRARY=$room/yektrod/lib/libyektrod.so PYTHONDONTWRITEBYTECODE=1 \
-    python3 "$top/clients/python/test_yektrod.py" "$top/examples" "$top/crates/rows/data/scripts"
+    python3 "$top/clients/python/test_yektrod.py" "$top/examples" "$room/tables"
 "$top/tests/trees.sh" "$room/yektrod"
 YEKTROD_DIRECTORY=$room/yektrod "$top/tests/docs.py" docs/C.md docs/PYTHON.md docs/RUST.md

@@ -1,13 +1,11 @@
 #!/usr/bin/env python3
-# Makes the rows of crates/rows/data/scripts whose names begin with `hostile`: inputs that are to make a reader slow or
-# wrong. What each must write follows from the pages of git by a rule of a line or two, which stands beside it here.
+# Makes the tables `hostile` and `hostile_lines` of crates/rows/data/scripts: inputs that are to make a reader slow or wrong.
+# What each must write follows from the pages of git by a rule of a line or two, which stands beside it here.
 # usage: hostile_rows.py [--write]
 # Without --write it compares the rows that are there with those that it makes.
-import os
-import re
 import sys
 
-DATA = os.path.join(os.path.dirname(os.path.abspath(__file__)), '..', 'crates', 'rows', 'data', 'scripts')
+import tables
 
 
 def add(contents, source=b'.gitattributes', macros=b'm'):
@@ -109,34 +107,14 @@ def reports():
     yield 'macros', b'[attr]m a\n[attr]-m a\n[attr] a\n!x a\n\\!x a\n', b'1: a\n2! macro-name\n3: a\n4! negative\n5: a\n'
 
 
-def rows():
-    for kind, made in ('script', scripts()), ('malformed', broken()), ('lines', reports()):
-        for name, contents, written in made:
-            yield kind, 'hostile_%s_%s' % (kind, name), contents, written
-
-
 def main():
     write = sys.argv[1:] == ['--write']
-    differing = count = 0
-    for kind, name, contents, written in rows():
-        count += 1
-        for end, text in ('.in', contents), ('.out', written):
-            path = os.path.join(DATA, name + end)
-            if write:
-                with open(path, 'wb') as it:
-                    it.write(text)
-                continue
-            with open(path, 'rb') as it:
-                if it.read() != text:
-                    print('hostile_rows: %s%s is made otherwise' % (name, end))
-                    differing += 1
-    if write:
-        with open(os.path.join(DATA, 'manifest'), 'w', encoding='utf-8') as it:
-            it.writelines('%s %s\n' % (kind, name) for kind, name, _, _ in rows())
-            it.writelines('script %s\n' % name[:-3] for name in sorted(os.listdir(DATA)) if re.match(r'(made|worked).*\.in$', name))
-    if differing:
-        sys.exit(1)
-    print('hostile_rows: %d rows are %s' % (count, 'written' if write else 'as they are made'))
+    whole = [(name, (script, written, b'-')) for name, script, written in scripts()]
+    malformed = [('malformed: ' + name, (script, written, b'4')) for name, script, written in broken()]
+    told = [(name, (contents, written, b'-')) for name, contents, written in reports()]
+    tables.keep('hostile', 'SCRIPT | what it writes | number of its malformed record, or -', whole + malformed, write)
+    tables.keep('hostile_lines', 'ATTRIBUTES FILE | the report of its lines | -', told, write)
+    print('hostile_rows: %d rows are %s' % (len(whole + malformed + told), 'written' if write else 'as they are made'))
 
 
 main()

@@ -1,6 +1,6 @@
 #!/usr/bin/env python3
-# Makes the rows of crates/rows/data/scripts whose names begin with `made`: scripts over attributes files that are made by
-# numbers, with the answers of `git check-attr`. The same rows are made each time.
+# Makes the table `made` of crates/rows/data/scripts: scripts over attributes files that are made by numbers, with the answers
+# of `git check-attr`. The same rows are made each time.
 # usage: made_rows.py [--write]
 # Without --write it compares the rows that are there with those that it makes, so it shows that git still answers so.
 import os
@@ -9,7 +9,8 @@ import subprocess
 import sys
 import tempfile
 
-DATA = os.path.join(os.path.dirname(os.path.abspath(__file__)), '..', 'crates', 'rows', 'data', 'scripts')
+import tables
+
 COUNT = 150
 
 NAMES = ['a', 'b', 'text', 'eol', 'diff', 'm', 'n', 'binary', 'x.y', '_z', 'w-1']
@@ -115,29 +116,11 @@ class Made:
             return git('check-attr', '-z', '--stdin', *self.names, given=b''.join(path + b'\0' for path in self.paths))
 
 
-def rows():
-    for number in range(COUNT):
-        made = Made(number)
-        name = 'made%03d' % number
-        yield name + '.in', made.script()
-        yield name + '.out', made.answers()
-
-
 def main():
     write = sys.argv[1:] == ['--write']
-    differing = 0
-    for name, contents in rows():
-        path = os.path.join(DATA, name)
-        if write:
-            with open(path, 'wb') as it:
-                it.write(contents)
-            continue
-        with open(path, 'rb') as it:
-            if it.read() != contents:
-                print('made_rows: %s is made otherwise' % name)
-                differing += 1
-    if differing:
-        sys.exit(1)
+    made = [Made(number) for number in range(COUNT)]
+    rows = [('', (it.script(), it.answers(), b'-')) for it in made]
+    tables.keep('made', 'SCRIPT | what git answers | number of its malformed record, or -', rows, write)
     print('made_rows: %d rows are %s' % (COUNT, 'written' if write else 'as git answers'))
 
 

@@ -1,13 +1,17 @@
 #!/bin/sh
 # Refuses the first request for memory of a run, then the second, and so on, until a run makes no more. Each time the
 # program must end with status 1 and the words for it, having written nothing, or with --lines a beginning of its lines;
-# or it can do without, and answers the same. Each test tests::memory::without_memory_* must pass, and so must the rows of
-# crates/rows/data/memory. The programs and the tests have to be built before, as the gate does.
+# or it can do without, and answers the same. Each test tests::memory::without_memory_* must pass, and so must the tables
+# below. The programs and the tests have to be built before, as the gate does.
 set -eu
 here=$(cd "$(dirname "$0")" && pwd)
 crates=$(cd "$here/../crates" && pwd)
 program=$crates/check_attr_cli/out/check_attr_cli
 rows=$crates/rows/out/rows
+# Tables and scenes of crates/rows/data, with each call that takes memory.
+tables='patterns/parts patterns/pairs patterns/tokens patterns/paths patterns/candidates patterns/indexes patterns/quotes
+    patterns/bases patterns/below_bases lines/names lines/items lines/states lines/lines lines/kept sources/locations
+    sources/globals sources/added engines/questions memory/numbers memory/searches memory/plain_lines memory/plain_paths memory/plain_quotes'
 test_crates='unit_tests attr_vectors'
 for built in "$program" "$rows" $(for it in $test_crates; do echo "$crates/$it/out/${it}_tests"; done); do
     if [ ! -x "$built" ]; then
@@ -99,9 +103,10 @@ each_of "global files" answers_whole "$program" "$room/global" "$room/missing"
 : >"$room/input"
 (
     cd "$crates/rows/data"
-    rows_of_memory=$(find memory -type f | sort)
-    "$rows" $rows_of_memory >"$room/answers"
-    each_of rows agrees "$rows" $rows_of_memory
+    for table in $tables; do
+        "$rows" "$table" >"$room/answers"
+        each_of "$table" agrees "$rows" "$table"
+    done
 )
 for crate in $test_crates; do
     tests=$crates/$crate/out/${crate}_tests

@@ -1,8 +1,8 @@
 #!/usr/bin/env python3
 """Asks git for the worked examples: what `crates/example_tests` proves of the definitions is what `git check-attr` answers. The rows
-are the script `worked_examples` of crates/rows/data/scripts too, so the program is compared with the same answers.
-usage: worked_examples.py [--rows]
-With --rows it writes the script, and without it fails if the script that is there is another one.
+are the table `worked` of crates/rows/data/scripts too, so the program is compared with the same answers.
+usage: worked_examples.py [--write]
+With --write it writes the table, and without it fails if the table that is there is another one.
 
 A row has the examples that it is about, the files of a work tree, answers for paths, and the lines that are dropped, if any, with the
 reasons of docs/SCRIPT.md. A path that ends in a slash is a directory.
@@ -14,8 +14,9 @@ import subprocess
 import sys
 import tempfile
 
+import tables
+
 TOP = os.path.dirname(os.path.dirname(os.path.abspath(__file__)))
-SCRIPT = f'{TOP}/crates/rows/data/scripts/worked_examples'
 SET, UNSET, UNSPECIFIED = 'set', 'unset', 'unspecified'
 NAME, NEGATIVE = 'attribute-name', 'negative'
 
@@ -89,7 +90,7 @@ def differences(row):
 
 
 def scripted(row):
-    """The records of a row (docs/SCRIPT.md), which remove its files in the end, and what they write."""
+    """The script of a row (docs/SCRIPT.md), and what it writes."""
     records, written = [], [f'dropped: {line}: {reason}\n' for line, reason in row.dropped.items()]
     for directory, contents in row.files.items():
         source = f'{directory}.gitattributes'
@@ -98,21 +99,7 @@ def scripted(row):
         kind, path = 'd' if path.endswith('/') else 'f', path.rstrip('/')
         records.append(f'names 1\n{name}\nask l s {kind} {len(path.encode())}\n{path}\n')
         written.append(f'{path}: {name}: {state}\n')
-    return ''.join(records) + 'pop\n' * len(row.files), ''.join(written)
-
-
-def script(rows):
-    """The script of all rows, and what it writes."""
-    parts = [scripted(row) for row in rows]
-    return {'.in': ''.join(records for records, _ in parts), '.out': ''.join(written for _, written in parts)}
-
-
-def text(path):
-    """The contents of a file, none if there is no file."""
-    if not os.path.exists(path):
-        return ''
-    with open(path, encoding='utf-8', newline='') as file:
-        return file.read()
+    return ''.join(records).encode(), ''.join(written).encode()
 
 
 def main():
@@ -125,14 +112,10 @@ def main():
     failed = {row.examples: other for row in rows if (other := differences(row))}
     if failed:
         sys.exit(f'worked_examples: git answers otherwise: {failed}')
-    for end, contents in script(rows).items():
-        if sys.argv[1:] == ['--rows']:
-            with open(SCRIPT + end, 'w', encoding='utf-8', newline='') as file:
-                file.write(contents)
-        elif text(SCRIPT + end) != contents:
-            sys.exit(f'worked_examples: {SCRIPT}{end} is another one; --rows writes it')
+    head = 'SCRIPT | what git answers, and the lines that are dropped | -'
+    tables.keep('worked', head, [(row.examples, (*scripted(row), b'-')) for row in rows], sys.argv[1:] == ['--write'])
     count = sum(len(row.answers) for row in rows)
-    print(f'worked_examples: git answers {count} times as {len(told)} examples say, and the script has these answers')
+    print(f'worked_examples: git answers {count} times as {len(told)} examples say, and the table has these answers')
 
 
 if __name__ == '__main__':

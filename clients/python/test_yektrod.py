@@ -164,15 +164,9 @@ class Script:
 
 def played(directory: str) -> Iterator[tuple[str, str]]:
     """The scripts of a directory, each with its answers."""
-    if os.path.exists(os.path.join(directory, 'manifest')):
-        for row in open(os.path.join(directory, 'manifest')):
-            kind, row_name = row.split()[:2]
-            if kind == 'script':
-                yield os.path.join(directory, row_name + '.in'), os.path.join(directory, row_name + '.out')
-    else:
-        for file in sorted(os.listdir(directory)):
-            if file.endswith('.script'):
-                yield os.path.join(directory, file), os.path.join(directory, file[:-6] + 'answers')
+    for file in sorted(os.listdir(directory)):
+        if file.endswith('.script'):
+            yield os.path.join(directory, file), os.path.join(directory, file[:-6] + 'answers')
 
 
 def compare(directories: list[str]) -> None:

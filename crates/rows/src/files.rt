@@ -151,21 +151,15 @@ fn push_answer(rt: &HostRuntime, about: &str, row: &Row, answer: &mut Answer) ->
         "plays" => scripts::played(row, answer),
         "devices" => devices::left(row, answer),
         "failing_calls" => devices::left_by_call(row, answer),
-        "manifest" => scripts::written_beside(rt, row, answer),
         _ => Err(Fault::NotARow),
     }
 }
 
-/// The text of a file.
+// The text of a file.
 fn read(rt: &HostRuntime, path: &str) -> Result<String, Fault> {
-    String::from_utf8(read_bytes(rt, path)?).or(Err(Fault::Unread))
-}
-
-/// The bytes of a file.
-pub(crate) fn read_bytes(rt: &HostRuntime, path: &str) -> Result<Vec<u8>, Fault> {
     let mut contents = Vec::new(rt.alloc());
     match Disk::new(rt).read_into(path, &mut contents) {
-        Ok(true) => Ok(contents),
+        Ok(true) => String::from_utf8(contents).or(Err(Fault::Unread)),
         Err(ReadError::OutOfMemory) => Err(Fault::OutOfMemory),
         Ok(false) | Err(ReadError::Device(_)) => Err(Fault::Unread),
     }

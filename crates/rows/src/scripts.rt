@@ -1,8 +1,7 @@
-//! The answers of rows about scripts and reports, and the scripts that are files.
+//! The answers of rows about scripts and reports.
 
 use crate::answer::Answer;
 use crate::fault::Fault;
-use crate::files::read_bytes;
 use crate::row::{Row, words_of};
 use attr_vectors::devices::Source;
 use check_attr::{Pull, Push, Reader, Writer, globals, play, program, run};
@@ -54,7 +53,7 @@ pub(crate) fn ended<R: Pull, W: Push>(
     writer: &mut W,
 ) -> Result<Result<(), check_attr::Fault>, Fault> {
     match kind {
-        "script" | "malformed" => {
+        "script" => {
             let built_in = globals(alloc, &mut Memory::new(alloc), &[])?;
             Ok(run(alloc, reader, writer, built_in))
         }
@@ -106,26 +105,4 @@ pub(crate) fn engine(alloc: Global) -> Result<Engine, AllocError> {
     };
     engine.add(alloc, list)?;
     Ok(engine)
-}
-
-/// Of a kind, a blank and a name: whether the input `NAME.in` of the directory `scripts` writes the text `NAME.out`. Of a
-/// script of the kind `malformed` a record is malformed, and what is written are the answers before it.
-pub(crate) fn written_beside(
-    rt: &HostRuntime,
-    row: &Row,
-    answer: &mut Answer,
-) -> Result<(), Fault> {
-    let (kind, name) = row.text(0).split_once(' ').ok_or(Fault::NotARow)?;
-    let script = read_part(rt, name, ".in")?;
-    let wanted = read_part(rt, name, ".out")?;
-    let (mut written, mut reader) = (Vec::new(answer.alloc), Reader::new(script.as_slice()));
-    let record = run_once(kind, &mut reader, &mut written)?;
-    if record.is_some() != (kind == "malformed") || written != wanted {
-        answer.text("another text")?;
-    }
-    Ok(())
-}
-
-fn read_part(rt: &HostRuntime, name: &str, extension: &str) -> Result<Vec<u8>, Fault> {
-    read_bytes(rt, &format!(in rt.alloc(); "scripts/{name}{extension}")?)
 }
