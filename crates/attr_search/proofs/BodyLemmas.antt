@@ -3,15 +3,23 @@ use Rattle.std.proofs.Common.{◌≡◌, ℕ, ◌+◌, ◌-◌, ◌<◌, List, [
 use Rattle.std.proofs.Common.{length-append, refl, sym, arith}
 use Rattle.std.proofs.lemmas.List.{length-replicate, take-map, length-map, length-set, map_push, map-set, replicate_more, take-append-le}
 use Rattle.std.proofs.lemmas.List.Elements.{All-same, All-tail}
+use Rattle.std.specs.List.{AllZip}
 use Rattle.attr_lists.specs.declared.types.TrackedAssignment.{TrackedAssignment}
 use Rattle.attr_search.specs.declared.bodies.BodyChange.{BodyChange}
 use Rattle.attr_search.specs.shared.BodyChanges.{changed_bodies, sized_bodies}
-use Rattle.attr_search.specs.shared.Slotted.{SharedBody, bodies_view}
+use Rattle.attr_search.specs.shared.Slotted.{SharedBody, bodies_view, defined_items}
 
 -- one more empty body
 pub grown_more : (old now after : List SharedBody) (n : ℕ) →
     after ≡ now ++ None ∷ [] → bodies_view now ≡ bodies_view old ++ replicate n [] → bodies_view after ≡ bodies_view old ++ replicate (n + 1) []
 grown_more old now after n pushed so_far = grind (arith, map_push, append_assoc, replicate_more)
+
+-- copies that share the bodies are seen alike
+pub shared_alike : (R : SharedBody → SharedBody → Type 0) → ((x y : SharedBody) → R x y → defined_items y ≡ defined_items x) →
+    (bodies copies : List SharedBody) → AllZip R bodies copies → bodies_view copies ≡ bodies_view bodies
+shared_alike R same [] [] h = refl
+shared_alike R same (x ∷ bodies) (y ∷ copies) h = grind (arith, shared_alike R same bodies copies, same x y)
+shared_alike R same bodies copies h = grind arith
 
 -- what there was stays in front
 pub kept_more : {X : Type 0} (old now after : List X) (x : X) → after ≡ now ++ x ∷ [] → take (length old) now ≡ old → take (length old) after ≡ old

@@ -62,7 +62,7 @@ impl MatchRef {
             assignment: item.inner.as_ref(),
             kind: kind_of(is_macro, self.at.cause),
             location: MatchLocation {
-                source: text_of(&index.source),
+                source: index.source.as_deref(),
                 sequence_number: line.number,
             },
         }
@@ -84,15 +84,6 @@ fn kind_of(is_macro: bool, cause: Option<usize>) -> MatchKind
         }
     } else {
         MatchKind::Attribute { macro_id: cause }
-    }
-}
-
-fn text_of(source: &Option<String>) -> Option<&str>
-    ensures { option_copied result ≡ option_map string_bytes source.now }
-{
-    match source {
-        Some(source) => Some(source.as_str()),
-        None => None,
     }
 }
 

@@ -1,6 +1,6 @@
 //! What attributes are as macros: their definitions, by number. A definition is shared with the collection by a count.
 
-ghost use Rattle.std.specs.Prelude.{◌≡◌, ◌<◌, ◌-◌, ◌++◌, [], All, IfOk, OnErr, OnOk, length, replicate, slice_index_or};
+ghost use Rattle.std.specs.Prelude.{◌≡◌, ◌<◌, ◌-◌, ◌++◌, [], All, OnErr, OnOk, length, replicate, slice_index_or};
 ghost use Rattle.attr_search.specs.shared.BodyChanges.{changed_bodies};
 ghost use Rattle.attr_search.specs.shared.Slotted.{bodies_view};
 
@@ -34,27 +34,6 @@ pub fn body_at(bodies: &[Option<Rc<Metadata>>], number: usize) -> &[TrackedAssig
         Some(_) => body_of(bodies, number),
         None => &[],
     }
-}
-
-/// The same definitions, of which each is shared once more.
-///
-/// # Errors
-///
-/// If memory runs out.
-pub fn copy_of_bodies(
-    alloc: Global,
-    bodies: &[Option<Rc<Metadata>>],
-) -> Result<Vec<Option<Rc<Metadata>>>, AllocError>
-    ensures { IfOk result (λ copy. bodies_view copy.items ≡ bodies_view bodies.now) }
-{
-    let mut copy = Vec::with_capacity(alloc, bodies.len())?;
-    for body in bodies {
-        match body {
-            Some(known) => copy.push(Some(known.clone()?))?,
-            None => copy.push(None)?,
-        }
-    }
-    Ok(copy)
 }
 
 /// Appends places without a definition, until there are as many as the count if there were fewer.

@@ -19,7 +19,7 @@ ghost use Rattle.attr_search.specs.inner.SlotsView.{AllAreNeeded, AreOpen};
 mod filling;
 
 use crate::answer_parts::{MatchRef, copy_of_items, copy_of_lines};
-use crate::bodies::{self, BodyChange, copy_of_bodies};
+use crate::bodies::{self, BodyChange};
 use crate::matching_line::AnsweringLine;
 use crate::wanted::WantedFlags;
 use attr_lists::types::{Match, Metadata, TrackedAssignment};
@@ -178,7 +178,7 @@ impl AnswerSlots {
         let filled = Vec::from_slice(alloc, &self.filled)?;
         let lines = copy_of_lines(alloc, &self.lines)?;
         let items = copy_of_items(alloc, &self.items)?;
-        let bodies = copy_of_bodies(alloc, &self.bodies)?;
+        let bodies = self.bodies.clone()?;
         let remaining = count_remaining(&wanted, &slots);
         Ok(AnswerSlots {
             slots,

@@ -5,10 +5,12 @@ use Rattle.attr_search.specs.inner.PartsView.{origins}
 use Rattle.attr_search.specs.inner.SlotsView.{slots_view}
 use Rattle.attr_search.specs.shared.Slotted.{bodies_view}
 use Rattle.attr_search.specs.declared.slots.AnswerSlots.TheInside.{Inside}
+use Rattle.attr_search.proofs.BodyLemmas.{shared_alike}
 use Rattle.attr_search.proofs.slots.AnswerSlots.copy.Goals as goal
 
 pub invariant_of-result : goal.invariant_of-result
-invariant_of-result c = grind (arith, nat_tests, length-map)
+invariant_of-result c =
+    let bodies = shared_alike _ (λ x y h. grind arith) _ _ c.in_ok-bodies.ensures.cases.0 in grind (arith, nat_tests, length-map, bodies)
 
 -- copies of what is kept are seen alike
 seen_alike : (a b : Inside) → b.slots.items ≡ a.slots.items → b.filled.items ≡ a.filled.items → origins b.lines.items ≡ origins a.lines.items →
@@ -32,4 +34,4 @@ returns c =
     } in
     rw (← c.self.view_is) (seen_alike c.self.inside copy (c.in_ok-slots.ensures.items ∙ c.deref-2.ensures.value)
     (c.in_ok-filled.ensures.items ∙ c.deref-3.ensures.value) (rw c.deref-4.ensures.value at c.in_ok-lines.ensures)
-    (rw c.deref-5.ensures.value at c.in_ok-items.ensures) (rw c.deref-6.ensures.value at c.in_ok-bodies.ensures) refl refl)
+    (rw c.deref-5.ensures.value at c.in_ok-items.ensures) (shared_alike _ (λ x y h. grind arith) _ _ c.in_ok-bodies.ensures.cases.0) refl refl)
