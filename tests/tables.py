@@ -1,6 +1,6 @@
 #!/usr/bin/env python3
 """The tables of crates/rows/data/scripts that made_rows.py, hostile_rows.py and worked_examples.py make. A row is a line, whose
-fields stand between bars: crates/rows/src/row.rt says how bytes are written.
+fields stand between bars: crates/list_rows/src/row.rt says how bytes are written.
 
 usage: tables.py DIRECTORY
 Writes the scripts of these tables to the directory, each as TABLE-NUMBER.script with its text beside it, TABLE-NUMBER.answers.

@@ -320,15 +320,6 @@ fn search_lists<'a>(
     Ok(state.taken)
 }
 
-/// Empties all slots.
-fn clear(slots: &mut [Option<Answer<'_>>])
-    ensures { plain_answers slots.new ≡ no_answers }
-{
-    for slot in slots.iter_mut() {
-        *slot = None;
-    }
-}
-
 /// Fills the slots of attributes, until each wanted attribute has an answer, and returns how many items it popped. A
 /// slot has the answer for the attribute with its index, if there is one; a slot that is filled stays as it is. The
 /// last list is searched first, and in it the last line (gitattributes page: later ones take precedence).
@@ -363,7 +354,7 @@ pub fn search<'a>(
     match search_lists(alloc, lists, bodies, wanted, slots) {
         Ok(taken) => Ok(taken),
         Err(error) => {
-            clear(slots);
+            slots.fill(None);
             Err(error)
         }
     }

@@ -1,13 +1,13 @@
 //! The answers of rows about devices in memory of which a call fails. A call that failed would succeed if it were made again,
 //! since each fails once, as an interrupted one.
 
-use crate::answer::Answer;
-use crate::fault::Fault;
-use crate::row::{Row, number_of, words_of};
 use crate::scripts::{ended, engine};
 use attr_vectors::devices::{Sink, Source};
 use check_attr::{Pull, Push, Reader, Writer, play, program};
 use gix_attributes::files::{Files, Memory};
+use list_rows::answer::Answer;
+use list_rows::fault::Fault;
+use list_rows::row::{Row, number_of, words_of};
 use std::alloc::{AllocError, Global};
 
 /// Of a program, its input, how its reader and its writer move bytes and which call of each fails: how the run ends, the text

@@ -1,40 +1,54 @@
 //! Steps of an engine: lists are added and removed, names are selected, paths are asked for, and what it returns is reported.
 
-use crate::fault::Fault;
-use crate::row::Row;
-use crate::scenes::Stage;
 use bstr::BStr;
 use gix_attributes::engine::{Addition, Below, Engine, Question};
 use gix_attributes::glob::pattern::Case;
 use gix_attributes::search::{AttributeId, Match};
-use std::alloc::AllocError;
+use list_rows::fault::Fault;
+use list_rows::row::Row;
+use list_rows::scene::Stage;
+use std::alloc::{AllocError, Global};
 use std::fmt::Write;
 
-impl Stage for Engine {
+/// An engine of which steps ask.
+#[derive(Drop)]
+pub(crate) struct Asked {
+    engine: Box<Engine>,
+}
+
+impl Asked {
+    /// An engine without lists of its own.
+    pub(crate) fn new(alloc: Global) -> Result<Asked, AllocError> {
+        let engine = Box::new(alloc, Engine::new(alloc)?)?;
+        Ok(Asked { engine })
+    }
+}
+
+impl Stage for Asked {
     fn take(&mut self, step: &Row, out: &mut String) -> Result<(), Fault> {
-        let alloc = *out.allocator();
+        let (alloc, engine) = (*out.allocator(), &mut *self.engine);
         match step.text(0) {
             // `add | SOURCE | FILE` adds the lines of a file, which is seen from the top directory.
-            "add" => self.add(alloc, addition(step, Some(""), true))?,
+            "add" => engine.add(alloc, addition(step, Some(""), true))?,
             // `add_without_macros | SOURCE | FILE` adds lines that apply to all paths, and may define no macros.
-            "add_without_macros" => self.add(alloc, addition(step, None, false))?,
+            "add_without_macros" => engine.add(alloc, addition(step, None, false))?,
             // `add_below | SOURCE | DIRECTORY | FILE`
-            "add_below" => self.add_below(alloc, list_below(step, true))?,
-            "add_below_without_macros" => self.add_below(alloc, list_below(step, false))?,
+            "add_below" => engine.add_below(alloc, list_below(step, true))?,
+            "add_below_without_macros" => engine.add_below(alloc, list_below(step, false))?,
             // Removes the last list, and reports whether there was one.
-            "pop" => writeln!(out, "{}", self.pop())?,
+            "pop" => writeln!(out, "{}", engine.pop())?,
             // `select | NAME | ..` selects these names, and all if there are none.
-            "select" => self.select(alloc, &step.texts(alloc, 1)?)?,
+            "select" => engine.select(alloc, &step.texts(alloc, 1)?)?,
             // `ask | PATH | CASE` reports the number of answers for a path that is no directory.
-            "ask" => ask(self, question(step, step.case(2)?, false), out)?,
-            "ask_directory" => ask(self, question(step, Case::Sensitive, true), out)?,
-            _ => return report(self, step, out),
+            "ask" => ask(engine, question(step, step.case(2)?, false), out)?,
+            "ask_directory" => ask(engine, question(step, Case::Sensitive, true), out)?,
+            _ => return report(engine, step, out),
         }
         Ok(())
     }
 
     fn push_state(&self, _step: &Row, out: &mut String) -> Result<(), AllocError> {
-        writeln!(out, "{}", self.num_answers())
+        writeln!(out, "{}", self.engine.num_answers())
     }
 }
 

@@ -1,11 +1,12 @@
 //! Files of rows. In a table each line is a row: what is asked comes first in it, and then the answer. A file of scenes has a
 //! block of lines for each row.
 
-use crate::answer::Answer;
-use crate::fault::Fault;
-use crate::row::Row;
-use crate::{devices, lines, matches, patterns, plain, scenes, scripts, sources};
+use crate::{devices, plain, scenes, scripts, sources};
 use gix_attributes::files::{Disk, Files, ReadError};
+use list_rows::answer::Answer;
+use list_rows::fault::Fault;
+use list_rows::row::Row;
+use list_rows::{lines, matches, patterns, scene};
 use std::fmt::Write;
 
 /// A file of rows, as a line of the file `files` names it.
@@ -88,7 +89,7 @@ impl<'a> File<'a> {
             }
         } else {
             scenes::push_report(self.about, text, &mut answer)?;
-            scenes::push_wanted(text, &mut wanted)?;
+            scene::push_wanted(text, &mut wanted)?;
         }
         let differs = answer.as_bstr() != wanted.as_bstr();
         Ok(differs.then_some(answer))

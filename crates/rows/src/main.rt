@@ -6,25 +6,17 @@
 //! compares all.
 #![tactic(auto)]
 
-mod answer;
 mod devices;
 mod engines;
-mod fault;
 mod files;
-mod keys;
-mod lines;
-mod matches;
-mod numbers;
-mod patterns;
 mod plain;
-mod row;
 mod scenes;
 mod scripts;
 mod searches;
 mod sources;
 
-use crate::fault::Fault;
 use crate::files::compare_files;
+use list_rows::fault::Fault;
 use std::env;
 use std::process::ExitCode;
 

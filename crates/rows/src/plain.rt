@@ -1,10 +1,10 @@
 //! The answers of rows about the plain search. Names are numbers, so `* 0 -1 2=x` sets 0, unsets 1 and gives 2 a value.
 
-use crate::answer::Answer;
-use crate::fault::Fault;
-use crate::row::{Row, number_of};
 use attr_vectors::plain::{self, Item, Origin, State, is_in_range};
 use bstr::BStr;
+use list_rows::answer::Answer;
+use list_rows::fault::Fault;
+use list_rows::row::{Row, number_of};
 use std::alloc::{AllocError, Global};
 
 /// A line, which matches, or defines a macro.

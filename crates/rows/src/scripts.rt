@@ -1,12 +1,12 @@
 //! The answers of rows about scripts and reports.
 
-use crate::answer::Answer;
-use crate::fault::Fault;
-use crate::row::{Row, words_of};
 use attr_vectors::devices::Source;
 use check_attr::{Pull, Push, Reader, Writer, globals, play, program, run};
 use gix_attributes::engine::{Addition, Engine};
 use gix_attributes::files::{Disk, Memory};
+use list_rows::answer::Answer;
+use list_rows::fault::Fault;
+use list_rows::row::{Row, words_of};
 use std::alloc::{AllocError, Global};
 
 // The bytes of the longest input that is read byte by byte, too.
@@ -54,7 +54,8 @@ pub(crate) fn ended<R: Pull, W: Push>(
 ) -> Result<Result<(), check_attr::Fault>, Fault> {
     match kind {
         "script" => {
-            let built_in = globals(alloc, &mut Memory::new(alloc), &[])?;
+            let built_in = globals(alloc, &mut Memory::new(alloc), &[]);
+            let built_in = built_in.or(Err(Fault::OutOfMemory))?;
             Ok(run(alloc, reader, writer, built_in))
         }
         "lines" => Ok(check_attr::lines(alloc, reader, writer)),

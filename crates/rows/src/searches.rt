@@ -1,9 +1,6 @@
 //! Steps of searches: lists are added and removed, outcomes are initialised and searched, and what they have is reported.
 
 use crate::engines::addition;
-use crate::fault::{Fault, expect_equal};
-use crate::row::Row;
-use crate::scenes::Stage;
 use bstr::BStr;
 use gix_attributes::Search;
 use gix_attributes::engine::Addition;
@@ -12,6 +9,9 @@ use gix_attributes::glob::search::pattern::List;
 use gix_attributes::search::{
     AttributeId, Attributes, Dropped, MatchKind, MetadataCollection, Outcome,
 };
+use list_rows::fault::{Fault, expect_equal};
+use list_rows::row::Row;
+use list_rows::scene::Stage;
 use std::alloc::{AllocError, Global};
 use std::fmt::Write;
 use std::mem;
@@ -172,7 +172,9 @@ impl Scene {
     fn read_globals(&mut self, alloc: Global) -> Result<(), Fault> {
         let (mut files, mut buf) = (Memory::new(alloc), Vec::new(alloc));
         let collection = &mut self.collection;
-        let (search, _) = Search::new_globals_from(alloc, &mut files, &[], &mut buf, collection)?;
+        // Only memory can be refused, as no file is read.
+        let made = Search::new_globals_from(alloc, &mut files, &[], &mut buf, collection);
+        let (search, _) = made.or(Err(Fault::OutOfMemory))?;
         *self.search = search;
         Ok(())
     }

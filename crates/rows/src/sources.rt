@@ -1,12 +1,12 @@
 //! The answers of rows about files: those of sources, global ones, and those that are added.
 
-use crate::answer::Answer;
-use crate::fault::Fault;
-use crate::lines::push_dropped;
-use crate::row::{Row, words_of};
 use gix_attributes::files::Disk;
 use gix_attributes::search::{AddError, Added, Dropped, MetadataCollection};
 use gix_attributes::{Prefixes, Search, Source};
+use list_rows::answer::Answer;
+use list_rows::fault::Fault;
+use list_rows::lines::push_dropped;
+use list_rows::row::{Row, words_of};
 use std::alloc::{AllocError, Global};
 use std::fmt::Write;
 

@@ -1,7 +1,9 @@
 use Rattle.std.proofs.Common.{arith, length}
+use Rattle.std.proofs.lemmas.List.{get_or-replicate}
 use Rattle.attr_table.specs.Cut.{no_answers}
 use Rattle.attr_vectors.specs.inner.Plain.{plain_answers, plain_bodies, plain_lists, plain_setting}
 use Rattle.attr_table.proofs.ForCallers.{taken_most, taken_least, walked_searched, searched_joined}
+use Rattle.attr_vectors.proofs.Seen.{plain_answers-empty}
 use Rattle.attr_vectors.proofs.plain.search.Goals as goal
 
 pub returns-in-Ok : goal.returns-in-Ok
@@ -20,3 +22,7 @@ returns-in-Ok c =
           c.in-Ok.ensures;
       refused = tt;
     }
+
+pub returns-in-Err-clause-refused : goal.returns-in-Err-clause-refused
+returns-in-Err-clause-refused c =
+    let emptied = c.fill.ensures.after (λ y h. grind arith) in plain_answers-empty _ (λ k lt. grind (arith, emptied, get_or-replicate))

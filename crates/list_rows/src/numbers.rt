@@ -3,7 +3,7 @@
 use crate::fault::{Fault, expect_equal};
 use crate::lines::{expect_copies, items_of};
 use crate::row::Row;
-use crate::scenes::Stage;
+use crate::scene::Stage;
 use attr_glob::search::Pattern;
 use attr_glob::search::pattern::Mapping;
 use attr_lists::name_table::NameTable;
@@ -14,7 +14,7 @@ use std::mem;
 
 /// A table, another one, and the lists that were added, each with its id.
 #[derive(Drop)]
-pub(crate) struct Numbering {
+pub struct Numbering {
     table: Box<NameTable>,
     other: Box<NameTable>,
     added: Vec<(usize, Vec<Mapping<Value>>)>,
@@ -22,7 +22,7 @@ pub(crate) struct Numbering {
 
 impl Numbering {
     /// A table without names.
-    pub(crate) fn new(alloc: Global) -> Result<Box<Numbering>, AllocError> {
+    pub fn new(alloc: Global) -> Result<Box<Numbering>, AllocError> {
         let table = Box::new(alloc, NameTable::new(alloc))?;
         let other = Box::new(alloc, NameTable::new(alloc))?;
         let numbering = Numbering {

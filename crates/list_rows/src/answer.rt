@@ -8,15 +8,15 @@ use std::io::Write;
 
 /// The fields of an answer, each with a bar behind it.
 #[derive(Drop)]
-pub(crate) struct Answer {
+pub struct Answer {
     /// What gives its memory.
-    pub(crate) alloc: Global,
+    pub alloc: Global,
     fields: Vec<u8>,
 }
 
 impl Answer {
     /// No field.
-    pub(crate) fn new(alloc: Global) -> Answer {
+    pub fn new(alloc: Global) -> Answer {
         Answer {
             alloc,
             fields: Vec::new(alloc),
@@ -24,28 +24,28 @@ impl Answer {
     }
 
     /// The fields as one text.
-    pub(crate) fn as_bstr(&self) -> BStr<'_> {
+    pub fn as_bstr(&self) -> BStr<'_> {
         BStr::new(&self.fields)
     }
 
     /// Adds a field of these bytes.
-    pub(crate) fn bytes(&mut self, bytes: &[u8]) -> Result<(), Fault> {
+    pub fn bytes(&mut self, bytes: &[u8]) -> Result<(), Fault> {
         self.fields.extend_from_slice(bytes)?;
         Ok(self.fields.push(b'|')?)
     }
 
     /// Adds a field with this text.
-    pub(crate) fn text(&mut self, text: &str) -> Result<(), Fault> {
+    pub fn text(&mut self, text: &str) -> Result<(), Fault> {
         self.bytes(text.as_bytes())
     }
 
     /// Adds a field with a value as it is printed.
-    pub(crate) fn shown<T: Display + Drop>(&mut self, value: T) -> Result<(), Fault> {
+    pub fn shown<T: Display + Drop>(&mut self, value: T) -> Result<(), Fault> {
         Ok(write!(self.fields, "{value}|")?)
     }
 
     /// Adds a field with an index, or a hyphen.
-    pub(crate) fn index(&mut self, index: Option<usize>) -> Result<(), Fault> {
+    pub fn index(&mut self, index: Option<usize>) -> Result<(), Fault> {
         match index {
             Some(index) => self.shown(index),
             None => self.text("-"),
@@ -53,7 +53,7 @@ impl Answer {
     }
 
     /// Adds a field with values as they are printed, between which are blanks.
-    pub(crate) fn words<T: Display>(&mut self, values: &[T]) -> Result<(), Fault> {
+    pub fn words<T: Display>(&mut self, values: &[T]) -> Result<(), Fault> {
         let mut text = Vec::new(self.alloc);
         for value in values {
             write!(text, "{value} ")?;
@@ -62,7 +62,7 @@ impl Answer {
     }
 
     /// Adds a field with `yes` or `no`.
-    pub(crate) fn flag(&mut self, is_so: bool) -> Result<(), Fault> {
+    pub fn flag(&mut self, is_so: bool) -> Result<(), Fault> {
         self.text(if is_so { "yes" } else { "no" })
     }
 }

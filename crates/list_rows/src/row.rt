@@ -11,13 +11,13 @@ use std::io::Write;
 
 /// The fields of a line.
 #[derive(Drop)]
-pub(crate) struct Row {
+pub struct Row {
     fields: Vec<Vec<u8>>,
 }
 
 impl Row {
     /// Reads a line.
-    pub(crate) fn read(alloc: Global, line: &str) -> Result<Row, Fault> {
+    pub fn read(alloc: Global, line: &str) -> Result<Row, Fault> {
         let mut fields = Vec::new(alloc);
         for text in line.split('|') {
             let mut field = Vec::new(alloc);
@@ -28,38 +28,38 @@ impl Row {
     }
 
     /// The bytes of a field, none if there is no such field.
-    pub(crate) fn bytes(&self, index: usize) -> &[u8] {
+    pub fn bytes(&self, index: usize) -> &[u8] {
         self.fields.get(index).map_or(b"", |field| field.as_slice())
     }
 
     /// The text of a field, empty if it is no UTF-8.
-    pub(crate) fn text(&self, index: usize) -> &str {
+    pub fn text(&self, index: usize) -> &str {
         str::from_utf8(self.bytes(index)).unwrap_or("")
     }
 
     /// The text of a field, nothing if that is a hyphen.
-    pub(crate) fn optional(&self, index: usize) -> Option<&str> {
+    pub fn optional(&self, index: usize) -> Option<&str> {
         Some(self.text(index)).filter(|text| *text != "-")
     }
 
     /// The number in a field.
-    pub(crate) fn number(&self, index: usize) -> Result<usize, Fault> {
+    pub fn number(&self, index: usize) -> Result<usize, Fault> {
         number_of(self.text(index))
     }
 
     /// The number in a field, nothing if there is a hyphen.
-    pub(crate) fn index(&self, index: usize) -> Result<Option<usize>, Fault> {
+    pub fn index(&self, index: usize) -> Result<Option<usize>, Fault> {
         self.optional(index).map(number_of).transpose()
     }
 
     /// The number in a field, or 0 if there is no such field.
-    pub(crate) fn number_or_zero(&self, index: usize) -> Result<usize, Fault> {
+    pub fn number_or_zero(&self, index: usize) -> Result<usize, Fault> {
         let field = self.fields.get(index);
         field.map_or(Ok(0), |_| self.number(index))
     }
 
     /// The case in a field, `exact` or `fold`.
-    pub(crate) fn case(&self, index: usize) -> Result<Case, Fault> {
+    pub fn case(&self, index: usize) -> Result<Case, Fault> {
         match self.text(index) {
             "exact" => Ok(Case::Sensitive),
             "fold" => Ok(Case::Fold),
@@ -68,24 +68,24 @@ impl Row {
     }
 
     /// The texts of the fields behind the first ones.
-    pub(crate) fn texts(&self, alloc: Global, count: usize) -> Result<Vec<&str>, AllocError> {
+    pub fn texts(&self, alloc: Global, count: usize) -> Result<Vec<&str>, AllocError> {
         let indexes = count..self.fields.len();
         indexes.map(|index| self.text(index)).collect(alloc)
     }
 
     /// The fields behind the first ones.
-    pub(crate) fn rest(&self, count: usize) -> &[Vec<u8>] {
+    pub fn rest(&self, count: usize) -> &[Vec<u8>] {
         self.fields.get(count..).unwrap_or(&[])
     }
 }
 
 /// The number that a text is.
-pub(crate) fn number_of(text: &str) -> Result<usize, Fault> {
+pub fn number_of(text: &str) -> Result<usize, Fault> {
     text.parse().or(Err(Fault::NotARow))
 }
 
 /// The words of a text, between which are blanks. `''` is the empty one.
-pub(crate) fn words_of(alloc: Global, text: &str) -> Result<Vec<String>, AllocError> {
+pub fn words_of(alloc: Global, text: &str) -> Result<Vec<String>, AllocError> {
     text.split(' ')
         .filter(|word| !word.is_empty())
         .map(|word| String::from_str(alloc, if word == "''" { "" } else { word }))
@@ -93,7 +93,7 @@ pub(crate) fn words_of(alloc: Global, text: &str) -> Result<Vec<String>, AllocEr
 }
 
 /// Pushes the bytes that a text stands for. Between braces stand how often, and what; a text without braces repeats nothing.
-pub(crate) fn push_decoded(text: &str, out: &mut Vec<u8>) -> Result<(), Fault> {
+pub fn push_decoded(text: &str, out: &mut Vec<u8>) -> Result<(), Fault> {
     for piece in text.split('}') {
         let (once, repeated) = piece.split_once('{').unwrap_or((piece, "0 "));
         let (times, part) = repeated.split_once(' ').ok_or(Fault::NotARow)?;

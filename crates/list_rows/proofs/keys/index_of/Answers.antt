@@ -4,7 +4,7 @@ use Rattle.attr_keys.specs.shared.KeyContents.{KeyContent}
 use Rattle.attr_keys.specs.shared.LineKeys.{line_content, shape_content}
 use Rattle.attr_keys.specs.shared.SortedLines.{SortsLines}
 use Rattle.attr_keys.specs.declared.line_key.Shape.{Shape}
-use Rattle.rows.proofs.keys.index_of.Goals as goal
+use Rattle.list_rows.proofs.keys.index_of.Goals as goal
 
 pub loop-line-preserved : goal.loop-line-preserved
 loop-line-preserved c =

@@ -6,7 +6,7 @@ ghost use Rattle.attr_keys.specs.shared.LineKeys.{line_content, shape_content};
 
 use crate::fault::Fault;
 use crate::row::Row;
-use crate::scenes::Stage;
+use crate::scene::Stage;
 use attr_glob::pattern::Case;
 use attr_keys::key::Texts;
 use attr_keys::key_index::KeyIndex;
@@ -17,13 +17,13 @@ use std::fmt::Write;
 
 /// The lines that were added: the text of each, and what else is known of it.
 #[derive(Drop)]
-pub(crate) struct Keys {
+pub struct Keys {
     lines: Vec<(Vec<u8>, Shape<'static>)>,
 }
 
 impl Keys {
     /// No lines.
-    pub(crate) fn new(alloc: Global) -> Keys {
+    pub fn new(alloc: Global) -> Keys {
         let lines = Vec::new(alloc);
         Keys { lines }
     }

@@ -1,6 +1,5 @@
 //! Why a comparison ends early, and why a row has no answer.
 
-use gix_attributes::search::AddError;
 use std::alloc::{AllocError, AllocFailed};
 use std::io;
 use std::io::ErrorKind;
@@ -47,15 +46,6 @@ impl From<io::Error> for Fault {
     }
 }
 
-impl From<AddError> for Fault {
-    fn from(error: AddError) -> Fault {
-        match error {
-            AddError::Io(error) => Fault::from(error),
-            AddError::OutOfMemory => Fault::OutOfMemory,
-        }
-    }
-}
-
 impl From<AllocError> for Fault {
     fn from(_error: AllocError) -> Fault {
         Fault::OutOfMemory
@@ -72,7 +62,7 @@ impl<T: Drop> From<AllocFailed<T>> for Fault {
 ///
 /// # Errors
 /// [`Fault::AnotherCopy`] if it isn't.
-pub(crate) fn expect_equal<T: PartialEq>(copy: &T, value: &T) -> Result<(), Fault> {
+pub fn expect_equal<T: PartialEq>(copy: &T, value: &T) -> Result<(), Fault> {
     if copy == value {
         Ok(())
     } else {

@@ -23,7 +23,7 @@ macro_rules! expect_copied {
 }
 
 /// Whether a text is a valid name, and of one that is not what is refused.
-pub(crate) fn name(row: &Row, answer: &mut Answer) -> Result<(), Fault> {
+pub fn name(row: &Row, answer: &mut Answer) -> Result<(), Fault> {
     match NameRef::try_from(BStr::new(row.bytes(0))) {
         Ok(name) if name.as_str() != row.text(0) => answer.text("another name"),
         Ok(name) => {
@@ -39,7 +39,7 @@ pub(crate) fn name(row: &Row, answer: &mut Answer) -> Result<(), Fault> {
 
 /// The items of a text, each as it is printed, or the text of its error. Copies of an item, its name and its state are made,
 /// which have to be equal.
-pub(crate) fn items(row: &Row, answer: &mut Answer) -> Result<(), Fault> {
+pub fn items(row: &Row, answer: &mut Answer) -> Result<(), Fault> {
     let mut out = String::new(answer.alloc);
     push_items(Iter::new(BStr::new(row.bytes(0))), &mut out)?;
     answer.text(&out)
@@ -59,15 +59,21 @@ fn push_item(item: AssignmentRef<'_>, out: &mut String) -> Result<(), Fault> {
     let alloc = *out.allocator();
     expect_copied!(alloc, item);
     expect_copied!(alloc, item.name);
-    expect_copied!(alloc, item.state);
-    if let StateRef::Value(value) = item.state {
-        expect_copied!(alloc, value);
-    }
+    expect_state_copied(alloc, item.state)?;
     Ok(write!(out, "[{item}]")?)
 }
 
+// It stands apart from `push_item`, as a proof of all four copies at once takes longer.
+fn expect_state_copied(alloc: Global, state: StateRef<'_>) -> Result<(), Fault> {
+    expect_copied!(alloc, state);
+    if let StateRef::Value(value) = state {
+        expect_copied!(alloc, value);
+    }
+    Ok(())
+}
+
 /// Of each item of a text its name, whether it is set, unset and unspecified, and its value.
-pub(crate) fn states(row: &Row, answer: &mut Answer) -> Result<(), Fault> {
+pub fn states(row: &Row, answer: &mut Answer) -> Result<(), Fault> {
     for item in Iter::new(BStr::new(row.bytes(0))) {
         let item = item.or(Err(Fault::NotARow))?;
         answer.text(item.name.as_str())?;
@@ -82,7 +88,7 @@ pub(crate) fn states(row: &Row, answer: &mut Answer) -> Result<(), Fault> {
 /// Each line of a file that has a result: its number, its pattern's text or its macro's name, and its items. Of a line that is
 /// refused it is why, and what. No line follows one that finds no memory. Nothing is asked for before the first line that has a
 /// result, so a file without one takes no memory.
-pub(crate) fn lines(row: &Row, answer: &mut Answer) -> Result<(), Fault> {
+pub fn lines(row: &Row, answer: &mut Answer) -> Result<(), Fault> {
     let (mut out, mut is_refused) = (String::new(answer.alloc), false);
     for line in parse(answer.alloc, row.bytes(0)) {
         if is_refused {
@@ -128,7 +134,7 @@ fn push_refused(error: &Error, out: &mut String) -> Result<(), AllocError> {
 }
 
 /// The lines of a file that its list keeps, and those that it drops. A copy of each line is made, which has to be equal.
-pub(crate) fn kept(row: &Row, answer: &mut Answer) -> Result<(), Fault> {
+pub fn kept(row: &Row, answer: &mut Answer) -> Result<(), Fault> {
     let (mappings, dropped) = Attributes.bytes_to_patterns(answer.alloc, row.bytes(0), "")?;
     expect_copies(answer.alloc, &mappings)?;
     let mut out = String::new(answer.alloc);
@@ -140,7 +146,7 @@ pub(crate) fn kept(row: &Row, answer: &mut Answer) -> Result<(), Fault> {
 }
 
 /// Copies of the lines of a list have to be equal to them.
-pub(crate) fn expect_copies(alloc: Global, mappings: &[Mapping<Value>]) -> Result<(), Fault> {
+pub fn expect_copies(alloc: Global, mappings: &[Mapping<Value>]) -> Result<(), Fault> {
     for mapping in mappings {
         expect_equal(&mapping.value.clone(alloc)?, &mapping.value)?;
     }
@@ -148,14 +154,14 @@ pub(crate) fn expect_copies(alloc: Global, mappings: &[Mapping<Value>]) -> Resul
 }
 
 /// How many lines of a file its list keeps, and how many it drops.
-pub(crate) fn kept_counts(row: &Row, answer: &mut Answer) -> Result<(), Fault> {
+pub fn kept_counts(row: &Row, answer: &mut Answer) -> Result<(), Fault> {
     let (mappings, dropped) = Attributes.bytes_to_patterns(answer.alloc, row.bytes(0), "")?;
     answer.shown(mappings.len())?;
     answer.shown(dropped.len())
 }
 
 /// The items of a line, in its order.
-pub(crate) fn items_of(line: &Value) -> &[TrackedAssignment] {
+pub fn items_of(line: &Value) -> &[TrackedAssignment] {
     match line {
         Value::MacroAssignments { assignments, .. } => assignments,
         Value::Assignments(assignments) => assignments,
@@ -178,7 +184,7 @@ fn push_mapping(mapping: &Mapping<Value>, out: &mut String) -> Result<(), AllocE
 }
 
 /// Adds a field with the dropped lines: of each its number, and why it is.
-pub(crate) fn push_dropped(dropped: &[Dropped], answer: &mut Answer) -> Result<(), Fault> {
+pub fn push_dropped(dropped: &[Dropped], answer: &mut Answer) -> Result<(), Fault> {
     let mut out = String::new(answer.alloc);
     for line in dropped {
         write!(out, "{} {:?};", line.line, line.reason)?;

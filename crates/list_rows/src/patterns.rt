@@ -15,7 +15,7 @@ use std::borrow::CowSlice;
 
 /// Of a pattern in a file: its text, the bits of its mode, the offset of its first wildcard, whether it is negative, and the
 /// text that it is written as. A copy is made, which has to be equal.
-pub(crate) fn pattern(row: &Row, answer: &mut Answer) -> Result<(), Fault> {
+pub fn pattern(row: &Row, answer: &mut Answer) -> Result<(), Fault> {
     let Some(pattern) = Pattern::from_bytes(answer.alloc, row.bytes(0))? else {
         return answer.text("none");
     };
@@ -29,7 +29,7 @@ pub(crate) fn pattern(row: &Row, answer: &mut Answer) -> Result<(), Fault> {
 }
 
 /// Of a path: the offset of its base name, and that name.
-pub(crate) fn base_name_of(row: &Row, answer: &mut Answer) -> Result<(), Fault> {
+pub fn base_name_of(row: &Row, answer: &mut Answer) -> Result<(), Fault> {
     let path = row.bytes(0);
     let offset = base_name_offset(path);
     answer.index(offset)?;
@@ -38,7 +38,7 @@ pub(crate) fn base_name_of(row: &Row, answer: &mut Answer) -> Result<(), Fault> 
 
 /// Of a quoted text: whether it is lent or copied, its plain bytes, and how many bytes are taken; or why it is refused. A text
 /// without a backslash takes no memory.
-pub(crate) fn quote(row: &Row, answer: &mut Answer) -> Result<(), Fault> {
+pub fn quote(row: &Row, answer: &mut Answer) -> Result<(), Fault> {
     match undo(answer.alloc, BStr::new(row.bytes(0))) {
         Ok((plain, taken)) => {
             let is_lent = matches!(&plain, CowSlice::Borrowed(_));
@@ -52,7 +52,7 @@ pub(crate) fn quote(row: &Row, answer: &mut Answer) -> Result<(), Fault> {
 }
 
 /// The list of a source below a root, in a box: a proof drops a box by one call.
-pub(crate) fn list_of(
+pub fn list_of(
     alloc: Global,
     bytes: &[u8],
     source: &str,
@@ -66,7 +66,7 @@ pub(crate) fn list_of(
 const LINES: &[u8] = b"x\n\ny";
 
 /// Of a source and its root: the source and the base of the list. A copy is made, which has to be equal.
-pub(crate) fn base(row: &Row, answer: &mut Answer) -> Result<(), Fault> {
+pub fn base(row: &Row, answer: &mut Answer) -> Result<(), Fault> {
     let list = list_of(answer.alloc, LINES, row.text(0), row.optional(1))?;
     let copy = Box::new(answer.alloc, list.clone(answer.alloc)?)?;
     expect_equal(&*copy, &*list)?;
@@ -75,7 +75,7 @@ pub(crate) fn base(row: &Row, answer: &mut Answer) -> Result<(), Fault> {
 }
 
 /// Of a path below the base of a list: what is behind the base, and the offset of the base name in that.
-pub(crate) fn below_base(row: &Row, answer: &mut Answer) -> Result<(), Fault> {
+pub fn below_base(row: &Row, answer: &mut Answer) -> Result<(), Fault> {
     let list = list_of(answer.alloc, LINES, row.text(0), row.optional(1))?;
     let (path, case) = (row.bytes(2), row.case(3)?);
     let offset = base_name_offset(path);

@@ -44,14 +44,14 @@ fn counted_of(row: &Row, alloc: Global) -> Result<(bool, u128), Fault> {
 }
 
 /// Whether a pattern's text matches a value.
-pub(crate) fn wildmatch(row: &Row, answer: &mut Answer) -> Result<(), Fault> {
+pub fn wildmatch(row: &Row, answer: &mut Answer) -> Result<(), Fault> {
     let (matched, _) = counted_of(row, answer.alloc)?;
     answer.flag(matched)
 }
 
 /// Whether a pattern's text matches a value, and the number of pairs that are visited if that is less than the least or more than
 /// the most.
-pub(crate) fn pairs(row: &Row, answer: &mut Answer) -> Result<(), Fault> {
+pub fn pairs(row: &Row, answer: &mut Answer) -> Result<(), Fault> {
     let (least, most) = (row.number(3)? as u128, row.number(4)? as u128);
     let (matched, pairs) = counted_of(row, answer.alloc)?;
     answer.flag(matched)?;
@@ -62,7 +62,7 @@ pub(crate) fn pairs(row: &Row, answer: &mut Answer) -> Result<(), Fault> {
 }
 
 /// How many tokens a text has, and whether it has none.
-pub(crate) fn token_count(row: &Row, answer: &mut Answer) -> Result<(), Fault> {
+pub fn token_count(row: &Row, answer: &mut Answer) -> Result<(), Fault> {
     let Some(tokens) = Tokens::read(answer.alloc, row.bytes(0))? else {
         return answer.text("-");
     };
@@ -77,7 +77,7 @@ const SHORT_VALUES: usize = 121;
 
 /// Which values of at most four bytes `a`, `b` and `/` a pattern's text matches, with blanks between them. Both cases have to
 /// answer the same.
-pub(crate) fn short_values(row: &Row, answer: &mut Answer) -> Result<(), Fault> {
+pub fn short_values(row: &Row, answer: &mut Answer) -> Result<(), Fault> {
     let (alloc, text) = (answer.alloc, row.bytes(0));
     let (mut taken, mut value) = (Vec::new(alloc), Vec::new(alloc));
     let mut buffers = MatchBuffers::new(alloc);
@@ -112,7 +112,7 @@ fn push_short_value(number: usize, value: &mut Vec<u8>) -> Result<(), AllocError
 
 /// Whether a pattern matches a path, which is a `file`, a `directory` or not known to be either. The kept tokens have to match
 /// it, too. Where bytes alone decide, that takes no memory.
-pub(crate) fn path(row: &Row, answer: &mut Answer) -> Result<(), Fault> {
+pub fn path(row: &Row, answer: &mut Answer) -> Result<(), Fault> {
     let (path, case) = (row.bytes(1), row.case(2)?);
     let is_dir = match row.text(3) {
         "directory" => Some(true),
@@ -146,7 +146,7 @@ fn kept_matches(
 }
 
 /// The indexes of the lines of a file that are tried for a path, last to first.
-pub(crate) fn candidates(row: &Row, answer: &mut Answer) -> Result<(), Fault> {
+pub fn candidates(row: &Row, answer: &mut Answer) -> Result<(), Fault> {
     let (alloc, path, case) = (answer.alloc, row.bytes(1), row.case(2)?);
     let list = list_of(alloc, row.bytes(0), "", None)?;
     let index = Box::new(alloc, Index::of(alloc, &list)?)?;
@@ -158,7 +158,7 @@ pub(crate) fn candidates(row: &Row, answer: &mut Answer) -> Result<(), Fault> {
 }
 
 /// Whether the index of a file is of its list, and whether it is of the list of another file.
-pub(crate) fn is_of_list(row: &Row, answer: &mut Answer) -> Result<(), Fault> {
+pub fn is_of_list(row: &Row, answer: &mut Answer) -> Result<(), Fault> {
     let alloc = answer.alloc;
     let list = list_of(alloc, row.bytes(0), "", None)?;
     let other = list_of(alloc, row.bytes(1), "", None)?;

@@ -2,7 +2,7 @@ use Rattle.std.proofs.Common.{◌≡◌, ◌∙◌, ap, arith, length}
 use Rattle.std.proofs.lemmas.List.{with_items_is}
 use Rattle.attr_lists.specs.ListViews.{entries_view}
 use Rattle.attr_lists.proofs.ForCallers.{lines_numbered_by}
-use Rattle.rows.proofs.numbers.Numbering.add.Goals as goal
+use Rattle.list_rows.proofs.numbers.Numbering.add.Goals as goal
 
 pub register-requires : goal.register-requires
 register-requires c =
