@@ -40,6 +40,7 @@ test:
 	tests/layout.sh
 	tests/reach.py
 	tests/edits.py
+	tests/ghost_use.py
 	tests/hostile_rows.py
 	tests/made_rows.py
 	tests/worked_examples.py

@@ -1,11 +1,11 @@
 //! Patterns, and how a pattern text is read.
 
-ghost use Rattle.std.specs.Prelude.{⊤, ◌≡◌, ◌↔◌, ◌≤◌, ◌<◌, ℕ, Bool, false, ◌+◌, ◌==◌, ◌||◌, List, [], ◌∷◌, Some, None, IsTrue, IsSome, IfSome, IsOk, IfOk, OnErr, not, option_map, position, codes, drop, take, length};
+ghost use Rattle.std.specs.Prelude.{⊤, ◌≡◌, ◌↔◌, ◌≤◌, ◌<◌, ℕ, false, ◌+◌, ◌==◌, ◌||◌, List, [], ◌∷◌, Some, None, IsTrue, IsSome, IfSome, IsOk, IfOk, OnErr, not, option_map, position, codes, drop, take, length};
 ghost use Rattle.std.specs.Option.{option_copied};
 ghost use Rattle.std.specs.List.{list_all, list_any, starts_with, ends_with};
 ghost use Rattle.std.specs.Cmp.Lexicographic.{pointwise};
 ghost use Rattle.bstr.specs.BStr.{bstr_bytes};
-ghost use Rattle.attr_glob.specs.Patterns.{Reading, reading, written, is_space, is_wildcard, is_negated, without_negation, without_root, without_end, first, is_suffix, read_rest, has_flag, negative, must_be_dir, ends_with as ends_with_flag, set_where};
+ghost use Rattle.attr_glob.specs.Patterns.{reading, written, is_space, is_wildcard, is_negated, without_negation, without_root, without_end, first, is_suffix, read_rest, has_flag, negative, must_be_dir, ends_with as ends_with_flag, set_where};
 ghost use Rattle.attr_wildmatch.specs.Slashes.{is_slash};
 ghost use Rattle.attr_wildmatch.specs.Matching.{same_byte};
 ghost use Rattle.attr_wildmatch.specs.Deciding.{text_matches};

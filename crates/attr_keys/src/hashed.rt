@@ -1,6 +1,6 @@
 //! Rows, which are indexes of lines, by the hashes of their keys: of whole keys, and of extensions.
 
-ghost use Rattle.std.specs.Prelude.{◌≡◌, ◌<◌, ◌≤◌, ◌+◌, ◌-◌, ◌^◌, [], ℕ, List, IfOk, IfSome, IsSome, None, OnOk, Some, length, map, reverse, true};
+ghost use Rattle.std.specs.Prelude.{◌≡◌, ◌<◌, ◌≤◌, ◌+◌, ◌-◌, ◌^◌, [], ℕ, IfOk, IfSome, IsSome, None, OnOk, Some, length, map, reverse, true};
 ghost use Rattle.std.specs.Bool.{OnFalse};
 ghost use Rattle.attr_keys.specs.inner.Cases.{in_case};
 ghost use Rattle.attr_keys.specs.inner.Extensions.{extension, is_hashed, is_reversed_extension};

@@ -4,7 +4,7 @@
 ghost use Rattle.std.specs.Prelude.{◌≡◌, ◌<◌, ◌≤◌, [], ℕ, IfOk, OnOk, false, length, true, slice_get, slice_index};
 ghost use Rattle.attr_keys.specs.inner.Cases.{keys_seen, seen_text};
 ghost use Rattle.attr_keys.specs.inner.MetRows.{AppendsRows, IsMissed};
-ghost use Rattle.attr_keys.specs.shared.Codes.{codes_of, row_codes};
+ghost use Rattle.attr_keys.specs.shared.Codes.{codes_of};
 ghost use Rattle.attr_keys.specs.shared.Meeting.{text_has};
 ghost use Rattle.attr_keys.specs.shared.Rows.{AreFirsts, AreInOrder, AreAllLinked, AreLinkedBefore, ArePrefixes, IsLink, has_row};
 

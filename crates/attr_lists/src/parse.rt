@@ -1,5 +1,5 @@
 //! The lines of an attributes file, and the assignments in a line.
-ghost use Rattle.std.specs.Prelude.{◌≡◌, ℕ, ◌<◌, ◌≤◌, List, [], ◌∷◌, Option, Some, MatchOption, OnSome, IfNone, IfSome, is_none, IfOk, not, ◌||◌, length, take, nat_eq, position, option_map};
+ghost use Rattle.std.specs.Prelude.{◌≡◌, ◌<◌, ◌≤◌, List, [], ◌∷◌, Option, Some, MatchOption, OnSome, IfNone, IfSome, is_none, IfOk, not, ◌||◌, length, take, position};
 ghost use Rattle.std.specs.Iterator.{YieldsFirstBy, item_count, at_most};
 ghost use Rattle.std.specs.Cow.{cow_slice_items};
 ghost use Rattle.std.specs.List.{position_or_len, starts_with};

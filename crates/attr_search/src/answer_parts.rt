@@ -1,8 +1,7 @@
 //! The parts of answers: lines that have answered, their items that are kept, and the bodies of macros. What is kept has an index
 //! among those of its kind, from 0.
 
-ghost use Rattle.std.specs.Prelude.{◌≡◌, ◌<◌, ⊤, IfOk, MatchOption, OnErr, length, option_map, string_bytes};
-ghost use Rattle.std.specs.Option.{option_copied};
+ghost use Rattle.std.specs.Prelude.{◌≡◌, ◌<◌, ⊤, IfOk, MatchOption, OnErr, length};
 ghost use Rattle.attr_search.specs.Matches.{cause_of, is_macro_kind, match_view};
 ghost use Rattle.attr_search.specs.inner.AnswerRefs.{IsMatchRef, KeepsItem, match_by_ref};
 ghost use Rattle.attr_search.specs.inner.PartsView.{origins, parts_view};

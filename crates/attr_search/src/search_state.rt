@@ -1,6 +1,6 @@
 //! The state of a search over lists: slots that are filled by the lines that match a path.
 
-ghost use Rattle.std.specs.Prelude.{◌≡◌, ◌*◌, ◌<◌, ◌≤◌, [], length, All, OnOk, IfOk, IfSome, IsNone, is_none, false, true, Ok, None, replicate};
+ghost use Rattle.std.specs.Prelude.{◌≡◌, ◌*◌, ◌<◌, ◌≤◌, [], length, All, OnOk, IfOk, IfSome, IsNone, is_none, false, true, Ok, None};
 ghost use Rattle.bstr.specs.BStr.{bstr_bytes};
 ghost use Rattle.attr_glob.specs.Views.{patterns_of};
 ghost use Rattle.attr_lists.specs.ListViews.{items_in, macro_id};

@@ -1,14 +1,14 @@
 //! What a search fills: a slot for each attribute. A slot has the answer for its attribute, or none. The wanted slots are
 //! those that a search looks for. It fills the needed slots alone, and skips the others.
 
-ghost use Rattle.std.specs.Prelude.{◌≡◌, Bool, List, ◌<◌, ◌≤◌, ◌*◌, ◌+◌, ◌-◌, ◌^◌, ◌&&◌, min, ⊤, All, false, None, Some, [], IfOk, IfSome, OnErr, OnOk, MatchOption, is_none, is_some, length, map, not, option_map, set, slice_index_or, take};
+ghost use Rattle.std.specs.Prelude.{◌≡◌, Bool, List, ◌<◌, ◌≤◌, ◌*◌, ◌+◌, ◌-◌, ◌^◌, ◌&&◌, min, All, false, None, Some, [], IfOk, IfSome, OnErr, OnOk, MatchOption, is_none, is_some, length, map, not, option_map, slice_index_or, take};
 ghost use Rattle.attr_table.specs.Cut.{is_done};
 ghost use Rattle.attr_search.specs.Matches.{match_view};
 ghost use Rattle.attr_search.specs.Settings.{HaveSlots};
 ghost use Rattle.std.specs.List.Sorted.{IsStrictlyIncreasing};
 ghost use Rattle.std.specs.Option.{option_copied};
 ghost use Rattle.std.specs.Vec.{vec_capacity};
-ghost use Rattle.attr_search.specs.Slots.{AreFreeFrom, IsNextFilled, slots_of};
+ghost use Rattle.attr_search.specs.Slots.{AreFreeFrom, IsNextFilled};
 ghost use Rattle.attr_search.specs.shared.BodyChanges.{changed_bodies, sized_bodies};
 ghost use Rattle.attr_search.specs.inner.Searched.{state_wanted};
 ghost use Rattle.attr_search.specs.shared.Slotted.{BodiesHaveSlots, bodies_view};

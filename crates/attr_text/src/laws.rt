@@ -1,9 +1,8 @@
 //! Laws of the definitions that the contracts cite. Each law is the contract of a function that does nothing.
-ghost use Rattle.std.specs.Prelude.{◌≡◌, ℕ, List, [], ◌∷◌, true, false, not, IsTrue, Result, Ok, length};
-ghost use Rattle.std.specs.List.{list_all, AllZip};
-ghost use Rattle.std.specs.Str.{IsUtf8};
+ghost use Rattle.std.specs.Prelude.{◌≡◌, ℕ, List, [], ◌∷◌, false, not, IsTrue, Result, Ok};
+ghost use Rattle.std.specs.List.{AllZip};
 ghost use Rattle.attr_text.specs.Names.{is_valid_name, is_reserved_name};
-ghost use Rattle.attr_text.specs.Items.{words, is_blank, Refusal, item_of, items_of, printed};
+ghost use Rattle.attr_text.specs.Items.{words, Refusal, item_of, items_of, printed};
 ghost use Rattle.attr_text.specs.ItemForms.{IsItem};
 ghost use Rattle.attr_text.specs.Words.{AreWords, IsPlain};
 ghost use Rattle.attr_text.specs.declared.assignment.Assignment.{Assignment};

@@ -1,5 +1,5 @@
 //! Names of attributes.
-ghost use Rattle.std.specs.Prelude.{codes, ◌≡◌, ℕ, List, Some, nat_eq, refl, IsTrue, IfOk, MatchResult, false, ◌↔◌};
+ghost use Rattle.std.specs.Prelude.{codes, ◌≡◌, ℕ, List, Some, nat_eq, refl, IsTrue, IfOk, MatchResult, false};
 ghost use Rattle.std.specs.List.{list_all};
 ghost use Rattle.std.specs.Ordering.{nat_cmp};
 ghost use Rattle.std.specs.Hash as fed;

@@ -1,5 +1,5 @@
 //! States of attributes, and the values that they may have.
-ghost use Rattle.std.specs.Prelude.{[], ◌≡◌, ℕ, List, Some, nat_eq, refl, IsTrue, IfOk, ◌↔◌, option_map};
+ghost use Rattle.std.specs.Prelude.{◌≡◌, ℕ, List, Some, nat_eq, refl, IsTrue, IfOk, ◌↔◌, option_map};
 ghost use Rattle.std.specs.Ordering.{nat_cmp};
 ghost use Rattle.std.specs.Hash as fed;
 ghost use Rattle.std.specs.Cmp.Lexicographic.{pointwise, slice_cmp, nat_list_eq_equiv, nat_list_cmp_total, texts_ties, texts_po};

@@ -1,14 +1,13 @@
 //! A plain search over slices, with a stack. The program `small_settings` runs it and the search of `attr_search`, and
 //! compares the slots and the counts of both.
 
-ghost use Rattle.std.specs.Prelude.{◌≡◌, ◌↔◌, IsTrue, ℕ, ◌+◌, ◌-◌, ◌^◌, ◌<◌, ◌≤◌, min, List, [], ◌∷◌, ◌++◌, length, All, OnOk, OnErr, IfOk, is_none, false};
+ghost use Rattle.std.specs.Prelude.{◌≡◌, ◌↔◌, IsTrue, ℕ, ◌+◌, ◌-◌, ◌<◌, ◌≤◌, [], ◌++◌, length, All, OnOk, OnErr, IfOk, is_none, false};
 ghost use Rattle.std.specs.List.{list_any};
-ghost use Rattle.attr_table.specs.Table.{Slots};
 ghost use Rattle.attr_table.specs.Cut;
 ghost use Rattle.attr_table.specs.Cut.{IsSearched, ExtendsCuts, no_answers};
 ghost use Rattle.attr_table.specs.Work.{work_of, newly_filled};
 ghost use Rattle.attr_table.specs.shared.Walk;
-ghost use Rattle.attr_table.specs.shared.Walk.{tasks_in, line_tasks, list_tasks, tasks_of, left_in, Searches};
+ghost use Rattle.attr_table.specs.shared.Walk.{tasks_in, line_tasks, list_tasks, tasks_of, Searches};
 ghost use Rattle.attr_vectors.specs.inner.Plain.{PlainHaveSlots, IsInRange, RowsHaveSlots, TasksHaveSlots, IsSearchState, ProcessesTask, SearchesTasks, free_items, plain_answers, plain_bodies, plain_items, plain_line, plain_lines, plain_lists, plain_origin, plain_setting, plain_state, plain_task, plain_tasks};
 
 use std::alloc::{AllocError, Global};

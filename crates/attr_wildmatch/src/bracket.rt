@@ -4,7 +4,7 @@ ghost use Rattle.std.specs.Prelude.{◌≡◌, ℕ, ◌||◌, ◌+◌, ◌≤◌
 ghost use Rattle.attr_wildmatch.specs.Bytes.{close_bracket, colon};
 ghost use Rattle.attr_wildmatch.specs.inner.Closing.{from_close};
 ghost use Rattle.attr_wildmatch.specs.inner.ByteSets.{has};
-ghost use Rattle.attr_wildmatch.specs.Brackets.{class_named, class_holds, member_holds, members_hold, set_holds, begins, name_in, span_end, ranged, from_single, from_escape, class_member, from_class, member_at, members as members_at};
+ghost use Rattle.attr_wildmatch.specs.Brackets.{class_named, class_holds, member_holds, members_hold, set_holds, begins, name_in, from_single, from_class, member_at, members as members_at};
 
 use crate::case::Case;
 use std::alloc::{AllocError, Global};

@@ -1,6 +1,6 @@
 //! The pairs of bytes that stand together in a text. A text that lacks one that tokens need doesn't match them.
 
-ghost use Rattle.std.specs.Prelude.{◌≡◌, ◌<◌, ◌↔◌, ◌||◌, ◌==◌, ℕ, IfSome, IfNone, IsTrue, true, false};
+ghost use Rattle.std.specs.Prelude.{◌≡◌, ◌<◌, ◌↔◌, ◌||◌, ◌==◌, ℕ, IsTrue, true};
 ghost use Rattle.attr_wildmatch.specs.TokenList.{tokens_of};
 ghost use Rattle.attr_wildmatch.specs.Pairs.{has_pair, holds, kind, needs_pair};
 

@@ -1,10 +1,10 @@
 //! The tokens of a pattern's text, by the gitignore page.
 
 ghost use Rattle.std.specs.Prelude.{◌≡◌, ◌+◌, ◌≤◌, ◌<◌, ◌^◌, ◌&&◌, ◌↔◌, ℕ, List, IfSome, IfOk, IsTrue, Some, true, length, option_map};
-ghost use Rattle.attr_wildmatch.specs.Tokens.{Token as Meaning, after_stars, stars_at, bracket_at, escape_at, token_at, token_ends_in_slash as meaning_ends_in_slash, tokens as meaning_of_text};
+ghost use Rattle.attr_wildmatch.specs.Tokens.{Token as Meaning, after_stars, stars_at, bracket_at, token_at, token_ends_in_slash as meaning_ends_in_slash, tokens as meaning_of_text};
 ghost use Rattle.attr_wildmatch.specs.Spelling.{AreTokens};
 ghost use Rattle.attr_wildmatch.specs.Deciding.{takes_byte};
-ghost use Rattle.attr_wildmatch.specs.inner.RowIndexes.{may_be_nothing, is_dirs, continues_with, ends_at};
+ghost use Rattle.attr_wildmatch.specs.inner.RowIndexes.{may_be_nothing, continues_with, ends_at};
 ghost use Rattle.attr_wildmatch.specs.TokenList.{token_of, tokens_of};
 ghost use Rattle.attr_wildmatch.specs.inner.Bordered.{is_bordered};
 ghost use Rattle.attr_wildmatch.specs.Pairs.{holds, needs_pair};

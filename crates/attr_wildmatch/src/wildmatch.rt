@@ -4,10 +4,9 @@
 //! first k tokens match some first part of these bytes. So no pair of an index among the tokens and an offset in the
 //! value is visited twice.
 
-ghost use Rattle.std.specs.Prelude.{◌≡◌, ◌+◌, ◌*◌, ◌≤◌, ◌<◌, ◌^◌, ◌↔◌, ◌++◌, ◌∷◌, [], ℕ, Bool, List, All, IfOk, IsOk, IsSome, IfSome, IfNone, OnOk, IsTrue, option_map, IsFalse, true, false, length, slice_get, vec_capacity};
+ghost use Rattle.std.specs.Prelude.{◌≡◌, ◌+◌, ◌*◌, ◌≤◌, ◌<◌, ◌^◌, ◌↔◌, ℕ, Bool, List, All, IfOk, IsOk, IsSome, OnOk, IsTrue, option_map, IsFalse, true, false, length, slice_get, vec_capacity};
 ghost use Rattle.attr_wildmatch.specs.Tokens.{Token as Meaning};
 ghost use Rattle.attr_wildmatch.specs.TokenList.{token_of, tokens_of};
-ghost use Rattle.attr_wildmatch.specs.inner.Bordered.{is_bordered};
 ghost use Rattle.attr_wildmatch.specs.Spelling.{AreTokens};
 ghost use Rattle.attr_wildmatch.specs.Matching.{Match, ReachedAtMost, TextMatches};
 ghost use Rattle.attr_wildmatch.specs.Deciding.{matches, text_matches};

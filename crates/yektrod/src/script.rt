@@ -1,6 +1,6 @@
 //! A whole script is played at once.
 
-ghost use Rattle.std.specs.Prelude.{◌≡◌, ◌⊎◌, ◌≤◌, ◌<◌, ℕ, List, None, Some, IfOk, OnErr, length};
+ghost use Rattle.std.specs.Prelude.{◌≡◌, ◌⊎◌, ◌≤◌, ◌<◌, ℕ, List, None, Some, length};
 ghost use Rattle.yektrod.specs.Played.{IsPlayed};
 ghost use Rattle.yektrod.specs.Statuses.{status_done, status_malformed, status_no_memory, status_no_room};
 

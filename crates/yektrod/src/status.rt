@@ -1,7 +1,5 @@
 //! What the functions return.
 
-ghost use Rattle.std.specs.Prelude.{◌≡◌};
-
 /// Done.
 pub const DONE: i32 = 0;
 /// Out of memory.

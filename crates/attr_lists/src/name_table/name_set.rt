@@ -1,6 +1,6 @@
 //! Names by number, and their numbers by name.
 
-ghost use Rattle.std.specs.Prelude.{◌≡◌, [], ◌∷◌, ◌++◌, ◌-◌, ◌<◌, length, take, slice_get, bytes_eq, None, Some, option_copied, IfOk, OnOk, OnErr, IfSome, IsTrue};
+ghost use Rattle.std.specs.Prelude.{◌≡◌, [], ◌∷◌, ◌-◌, ◌<◌, length, take, slice_get, bytes_eq, None, Some, option_copied, IfOk, IfSome, IsTrue};
 ghost use Rattle.std.specs.List.{IsDistinct};
 ghost use Rattle.std.specs.Rc.{rc_str_bytes};
 ghost use Rattle.attr_text.specs.Names.{is_valid_name};

@@ -6,7 +6,7 @@ ghost use Rattle.attr_lists.specs.Definitions.{macros_defined};
 ghost use Rattle.attr_lists.specs.inner.Registered.{numbered_body};
 ghost use Rattle.attr_lists.specs.inner.NameSteps.{InsertsNames};
 ghost use Rattle.attr_lists.specs.ListViews.{entry_view, entries_view};
-ghost use Rattle.attr_lists.specs.Numbers.{names_of, names_in, number_of, numbered_item, numbered, numbered_lines};
+ghost use Rattle.attr_lists.specs.Numbers.{names_of, names_in, numbered_item, numbered, numbered_lines};
 
 use crate::name_table::name_set::NameSet;
 use crate::types::{Assignments, AttributeId, Metadata, TrackedAssignment, Value, cloned};

@@ -1,7 +1,6 @@
 //! Matching without a count: a row is moved over the bytes only if nothing simpler decides.
 
-ghost use Rattle.std.specs.Prelude.{◌≡◌, ◌≤◌, ◌<◌, ◌^◌, ◌||◌, ◌∷◌, [], ℕ, Bool, List, IfSome, IfNone, true, false, length, position};
-ghost use Rattle.attr_wildmatch.specs.Slashes.{is_slash};
+ghost use Rattle.std.specs.Prelude.{◌≡◌, ◌<◌, ◌||◌, ◌∷◌, [], IfSome, IfNone, true, false, length};
 ghost use Rattle.attr_wildmatch.specs.Tokens.{dirs};
 ghost use Rattle.attr_wildmatch.specs.TokenList.{token_of, tokens_of};
 ghost use Rattle.attr_wildmatch.specs.inner.Decided.{IsReady, IsDecided};

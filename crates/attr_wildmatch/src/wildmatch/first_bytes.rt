@@ -1,8 +1,7 @@
 //! Where tokens that begin with a byte or two may match.
 
-ghost use Rattle.std.specs.Prelude.{◌≡◌, ◌≤◌, ◌∷◌, IfSome, IsFalse, false, drop, length};
+ghost use Rattle.std.specs.Prelude.{◌≡◌, ◌≤◌, IfSome, IsFalse, false, drop, length};
 ghost use Rattle.attr_wildmatch.specs.Brackets.{begins};
-ghost use Rattle.attr_wildmatch.specs.Tokens.{lit};
 ghost use Rattle.attr_wildmatch.specs.TokenList.{tokens_of};
 ghost use Rattle.attr_wildmatch.specs.Deciding.{matches};
 ghost use Rattle.attr_wildmatch.specs.inner.FirstBytes.{BeginWith, BeginWithPair, begins_with_pair, from_first};

@@ -1,6 +1,6 @@
 //! The collection of attributes: their names by number, and the definitions of macros of the registered lists.
 
-ghost use Rattle.std.specs.Prelude.{◌≡◌, ◌↔◌, ◌<◌, ℕ, [], length, true, false, All, IfOk, OnOk, OnErr, IsTrue, nat_eq, ◌==◌, slice_get, option_copied};
+ghost use Rattle.std.specs.Prelude.{◌≡◌, ◌↔◌, ◌<◌, ℕ, [], length, true, All, IfOk, OnOk, OnErr, IsTrue, slice_get, option_copied};
 ghost use Rattle.attr_lists.specs.Collections.{empty_collection};
 ghost use Rattle.attr_lists.specs.Numbers.{AppendsNames, number_of, numbered_lines};
 ghost use Rattle.attr_lists.specs.Definitions.{IsSoundCollection, RegistersAs, macro_body, without_list};
@@ -8,9 +8,7 @@ ghost use Rattle.attr_lists.specs.KeptLists.{macros_valid};
 ghost use Rattle.attr_lists.specs.shared.Reading.{IsReadWith, with_first};
 ghost use Rattle.attr_lists.specs.ListViews.{entries_view};
 ghost use Rattle.attr_lists.specs.NameViews.{names_from, names_left};
-ghost use Rattle.std.specs.List.{IsDistinct, list_any};
 ghost use Rattle.gix_attributes.specs.SearchViews.{Holds};
-ghost use Rattle.attr_search.specs.IndexedLists.{list_ids_of};
 ghost use Rattle.attr_search.specs.shared.ReadLines.{AreRead};
 ghost use Rattle.attr_search.specs.shared.Slotted.{defined_items};
 ghost use Rattle.attr_search.specs.ListView.{list_view};

@@ -1,9 +1,9 @@
 //! What searches find.
 
-ghost use Rattle.std.specs.Prelude.{◌≡◌, ⊤, ◌↔◌, ◌<◌, ◌≤◌, ◌*◌, [], All, None, IfOk, IsTrue, MatchOption, OnErr, OnOk, true, drop, length, map, option_and_then, option_map, slice_get, slice_index_or};
+ghost use Rattle.std.specs.Prelude.{◌≡◌, ⊤, ◌↔◌, ◌<◌, [], All, None, IfOk, IsTrue, MatchOption, OnErr, OnOk, true, drop, length, map, option_and_then, option_map, slice_get, slice_index_or};
 ghost use Rattle.attr_glob.specs.Views.{pattern_view};
 ghost use Rattle.attr_lists.specs.ListViews.{entry_view};
-ghost use Rattle.gix_attributes.specs.Contents.{IsCurrent, IsNextFound, reset_content, found_in, initial_content, looked_up, names_selected, empty_content, selected_answer, selected_in, wanted_of};
+ghost use Rattle.gix_attributes.specs.Contents.{IsCurrent, IsNextFound, reset_content, found_in, initial_content, looked_up, names_selected, empty_content, selected_answer, selected_in};
 ghost use Rattle.gix_attributes.specs.inner.Consistency.{nothing_wanted};
 ghost use Rattle.gix_attributes.specs.Searching.{is_complete};
 ghost use Rattle.gix_attributes.specs.inner.Needed.{AreNeeded, AreOwnersOf, IsNarrowed, flags_of};

@@ -1,6 +1,6 @@
 //! The names that an outcome looks for, with their numbers, and the bodies in which it differs from a collection.
 
-ghost use Rattle.std.specs.Prelude.{◌≡◌, ◌↔◌, ◌<◌, ◌++◌, ⊤, ℕ, List, [], ◌∷◌, IsTrue, All, IfOk, OnOk, MatchOption, length, map, slice_index_or};
+ghost use Rattle.std.specs.Prelude.{◌≡◌, ◌↔◌, ◌<◌, ◌++◌, ⊤, ℕ, List, IsTrue, All, IfOk, OnOk, MatchOption, length, map};
 ghost use Rattle.gix_attributes.specs.Contents.{bodies_of, looked_up, names_selected};
 ghost use Rattle.gix_attributes.specs.inner.BodiesMade.{AreMade};
 ghost use Rattle.gix_attributes.specs.inner.Consistency.{AreEmptyElsewhere};
