@@ -39,7 +39,7 @@ test:
 	tests/version.sh
 	tests/layout.sh
 	tests/reach.py
-	tests/edits.py
+	tests/mutants.py
 	tests/ghost_use.py
 	tests/hostile_rows.py
 	tests/made_rows.py

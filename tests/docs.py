@@ -36,7 +36,7 @@ RUST = 'clients/rust/yektrod/examples'
 WITH_COMMANDS = ['README.md', 'CONTRIBUTING.md', 'docs/SCRIPT.md', 'docs/LIBRARY.md', 'docs/FROM_GITOXIDE.md',
                  'docs/CHECK_ATTR.md', 'docs/C.md', 'docs/PYTHON.md', 'docs/RUST.md', 'examples/README.md']
 # What proves, and so takes too long here. The gate itself runs all but most wrong bodies.
-PROVES = re.compile(r'\brt (run|ci|check|test|lib|verdict|all|must-fail|plant|tidy|names)\b|\.ci/run|wrong_bodies\.sh')
+PROVES = re.compile(r'\brt (run|ci|check|test|lib|verdict|all|must-fail|plant|tidy|names)\b|\.ci/run|mutants\.py')
 SECONDS = 900
 LIBRARY = os.environ.get('YEKTROD_DIRECTORY')
 
