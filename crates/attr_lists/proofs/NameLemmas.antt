@@ -1,7 +1,7 @@
 -- Names by number: a list that takes names grows at its end, and its names differ and are valid.
 use Rattle.std.proofs.Common.{◌≡◌, ℕ, ◌+◌, ◌<◌, true, false, List, [], ◌∷◌, ◌++◌, length, get_or, drop, map, bytes_eq}
 use Rattle.std.specs.Prelude.{IsErr}
-use Rattle.std.proofs.Common.{Result, refl, sym, ap, subst, ◌∙◌, ⊎_elim, arith}
+use Rattle.std.proofs.Common.{Result, Ok, refl, sym, ap, subst, ◌∙◌, ⊎_elim, arith}
 use Rattle.std.specs.List.{list_any, IsDistinct}
 use Rattle.std.specs.Cmp.Lexicographic.{nat_list_eq_equiv}
 use Rattle.std.proofs.lemmas.Bool.{cases_Bool, cond-true, cond-false}
@@ -13,7 +13,7 @@ use Rattle.attr_glob.specs.declared.search.pattern.Mapping.{Mapping}
 use Rattle.attr_lists.specs.declared.types.TrackedAssignment.{TrackedAssignment}
 use Rattle.attr_lists.specs.declared.types.Value.{Value}
 use Rattle.attr_lists.specs.ListViews.{entry_view, entries_view}
-use Rattle.attr_lists.specs.inner.NameSteps.{InsertsNames}
+use Rattle.attr_lists.specs.inner.NameSteps.{InsertsNames, ReadsWithNames}
 use Rattle.attr_lists.specs.Numbers.{AppendsNames, names_of, names_in, with_name, with_names}
 
 -- a name that is there is not inserted again
@@ -51,6 +51,14 @@ inserted_after start now next names appended e =
 pub not_inserted : {X E : Type 0} (result : Result X E) (names old new : List (List ℕ)) → IsErr result → AppendsNames old new
     → InsertsNames result names old new
 not_inserted result names old new err appended = grind arith
+
+-- it was read, or some of its names were inserted before memory ran out
+pub was_read : {X E : Type 0} (x : X) (IsRead : X → Type 0) (old new : List (List ℕ)) → IsRead x → ReadsWithNames {E = E} (Ok x) IsRead old new
+was_read x IsRead old new read = grind arith
+
+pub not_read : {X E : Type 0} (result : Result X E) (IsRead : X → Type 0) (old new : List (List ℕ)) → IsErr result → AppendsNames old new
+    → ReadsWithNames result IsRead old new
+not_read result IsRead old new err appended = grind arith
 
 -- names differ
 with_name-distinct : (known : List (List ℕ)) (name : List ℕ) → IsDistinct bytes_eq known → IsDistinct bytes_eq (with_name known name)

@@ -5,7 +5,7 @@
 //! removed with it.
 ghost use Rattle.std.specs.Prelude.{◌≡◌, true, false, ◌<◌, ◌↔◌, length, All, Some, None, nat_lt, if◌then◌else◌, option_map, IfOk, OnOk, OnErr, IfSome, IsSome, IsTrue, slice_get, option_copied, take};
 ghost use Rattle.attr_lists.specs.Definitions.{definitions_of, last_defined, macro_body, without_list, HoldsList, IsSoundCollection, RegistersAs};
-ghost use Rattle.attr_lists.specs.shared.Reading.{IsReadWith, NumbersLines, with_first};
+ghost use Rattle.attr_lists.specs.shared.Reading.{AddsNames, IsReadWith, NumbersLines, with_first};
 ghost use Rattle.attr_lists.specs.shared.Keeping.{StayRegistered, OthersStayRegistered, IsNumbered};
 ghost use Rattle.attr_lists.specs.shared.MacroNumbers.{ListsMacros};
 ghost use Rattle.std.specs.Iterator.{YieldsFirstBy, item_count};
@@ -170,9 +170,7 @@ impl NameTable {
     ) -> Result<(Vec<Mapping<Value>>, Vec<Dropped>), AllocError>
         ensures read { IfOk result (λ r. IsReadWith
             allow_macros bytes.now self.old.names self.new.names r.0.items r.1.items) }
-        ensures lists { self.new.lists ≡ self.old.lists }
-        ensures sound { IsSoundCollection self.new }
-        ensures err { OnErr result (self.new ≡ self.old) }
+        ensures names { AddsNames result self.old self.new }
     {
         let count = self.names.len();
         let read = read_buffer(alloc, &mut self.names, bytes, allow_macros);
@@ -198,9 +196,7 @@ impl NameTable {
         requires { macros_valid (entries_view mappings.old) ≡ true }
         ensures numbered { OnOk result (NumbersLines (entries_view mappings.old)
             self.old.names self.new.names (entries_view mappings.new)) }
-        ensures lists { self.new.lists ≡ self.old.lists }
-        ensures sound { IsSoundCollection self.new }
-        ensures err { OnErr result (self.new ≡ self.old) }
+        ensures names { AddsNames result self.old self.new }
     {
         let count = self.names.len();
         let numbered = numbers::number_list(alloc, &mut self.names, mappings);

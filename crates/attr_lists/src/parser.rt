@@ -1,6 +1,6 @@
 //! The lines of an attributes file as the mappings of a list.
 
-ghost use Rattle.std.specs.Prelude.{◌≡◌, ◌||◌, map, Ok, IfOk, OnErr};
+ghost use Rattle.std.specs.Prelude.{◌≡◌, ◌||◌, map, Ok, IfOk};
 ghost use Rattle.std.specs.Result.{result_map_both};
 ghost use Rattle.attr_glob.specs.Patterns.{all_flags};
 ghost use Rattle.attr_glob.specs.Views.{mode_bits, pattern_view};
@@ -9,9 +9,9 @@ ghost use Rattle.attr_text.specs.Names.{is_valid_name};
 ghost use Rattle.attr_text.specs.TextViews.{state_view};
 ghost use Rattle.attr_lists.specs.LineViews.{target_view, line_view};
 ghost use Rattle.attr_lists.specs.inner.LineSteps.{given_by, forgotten, item_name, item_names, kept_line_view, numbered_items, target_id, target_names, target_pattern, IsLineReadWith};
-ghost use Rattle.attr_lists.specs.inner.NameSteps.{InsertsNames};
+ghost use Rattle.attr_lists.specs.inner.NameSteps.{InsertsNames, ReadsWithNames};
 ghost use Rattle.attr_lists.specs.ListViews.{entry_view, entries_view};
-ghost use Rattle.attr_lists.specs.Numbers.{AppendsNames, names_of, numbered, numbered_item};
+ghost use Rattle.attr_lists.specs.Numbers.{names_of, numbered, numbered_item};
 ghost use Rattle.attr_lists.specs.shared.MacroNumbers.{defines_macros};
 ghost use Rattle.attr_lists.specs.shared.Reading.{IsReadWith, ReadsNumbered};
 ghost use Rattle.attr_lists.specs.KeptLists.{IsReadAs, tracked, reason_of, items_read, line_read, defines_no_macro, macro_valid, macros_valid};
@@ -95,9 +95,8 @@ pub(crate) fn read_buffer(
     bytes: &[u8],
     allow_macros: bool,
 ) -> Result<(Vec<Mapping<Value>>, Vec<Dropped>), AllocError>
-    ensures read { IfOk result (λ r.
-        IsReadWith allow_macros bytes.now names.old names.new r.0.items r.1.items) }
-    ensures err { OnErr result (AppendsNames names.old names.new) }
+    ensures { ReadsWithNames result (λ r. IsReadWith allow_macros bytes.now
+        names.old names.new r.0.items r.1.items) names.old names.new }
 {
     let mut mappings = Vec::new(alloc);
     let mut dropped = Vec::new(alloc);
@@ -135,9 +134,8 @@ fn read_line(
     names: &mut NameSet,
     line: Result<(Kind, Iter<'_>, usize), Error>,
 ) -> Result<Result<Mapping<Value>, Dropped>, AllocError>
-    ensures read { IfOk result (λ read.
-        IsLineReadWith names.old names.new (line_view line.entry) (kept_line_view read)) }
-    ensures err { OnErr result (AppendsNames names.old names.new) }
+    ensures { ReadsWithNames result (λ read. IsLineReadWith names.old names.new
+        (line_view line.entry) (kept_line_view read)) names.old names.new }
 {
     match line {
         Ok((kind, items, number)) => read_given(alloc, names, kind, items, number),
@@ -160,10 +158,9 @@ fn read_given(
     items: Iter<'_>,
     line: usize,
 ) -> Result<Result<Mapping<Value>, Dropped>, AllocError>
-    ensures read { IfOk result (λ read. ReadsNumbered names_of numbered
+    ensures { ReadsWithNames result (λ read. ReadsNumbered names_of numbered
         (line_read (Ok (given_by kind items.entry line))) names.old names.new
-        (kept_line_view read)) }
-    ensures err { OnErr result (AppendsNames names.old names.new) }
+        (kept_line_view read)) names.old names.new }
 {
     let id = number_macro(alloc, names, &kind)?;
     match read_items(alloc, names, items)? {
@@ -201,10 +198,9 @@ fn read_items(
     names: &mut NameSet,
     mut items: Iter<'_>,
 ) -> Result<Result<Assignments, DropReason>, AllocError>
-    ensures read { IfOk result (λ read. ReadsNumbered item_names numbered_items
+    ensures { ReadsWithNames result (λ read. ReadsNumbered item_names numbered_items
         (items_read items.entry) names.old names.new
-        (result_map_both (λ a. a.items) (λ reason. reason) read)) }
-    ensures err { OnErr result (AppendsNames names.old names.new) }
+        (result_map_both (λ a. a.items) (λ reason. reason) read)) names.old names.new }
 {
     let mut assignments = SmallVec::new(alloc);
     while let Some((name, state)) = items.next_parts() {
@@ -222,11 +218,10 @@ fn read_item(
     name: &[u8],
     state: StateRef<'_>,
 ) -> Result<Result<TrackedAssignment, DropReason>, AllocError>
-    ensures read { IfOk result (λ read. ReadsNumbered item_name numbered_item
+    ensures { ReadsWithNames result (λ read. ReadsNumbered item_name numbered_item
         (result_map_both tracked reason_of
         (with_state (checked_name name.now) (state_view state.entry)))
-        names.old names.new read) }
-    ensures err { OnErr result (AppendsNames names.old names.new) }
+        names.old names.new read) names.old names.new }
 {
     match names.number_item(alloc, name)? {
         Ok(number) => Ok(Ok(TrackedAssignment {

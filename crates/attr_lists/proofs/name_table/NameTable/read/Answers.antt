@@ -1,5 +1,6 @@
 use Rattle.std.proofs.Common.{◌≡◌, ◌∙◌, ap, arith, length}
 use Rattle.std.proofs.lemmas.List.{length-append}
+use Rattle.attr_lists.specs.Collections.{Collection}
 use Rattle.attr_lists.specs.KeptLists.{kept_list_where}
 use Rattle.attr_lists.specs.Numbers.{names_in}
 use Rattle.attr_lists.specs.inner.NameTableView.{name_table_view, IsNameTable}
@@ -10,7 +11,7 @@ use Rattle.attr_lists.proofs.name_table.NameTable.read.Goals as goal
 pub extend-extended-requires : goal.extend-extended-requires
 extend-extended-requires c =
     let texts = names_in (kept_list_where c.args.allow_macros c.args.bytes.now) in
-    let names = on_value c.read_buffer-read.result (λ x r. r.numbered.names) c.read_buffer-read.ensures.read in
+    let names = on_value c.read_buffer-read.result (λ x r. r.numbered.names) c.read_buffer-read.ensures.ok in
     let more = appended c.read_buffer-read.result c.self.inside.names c.read_buffer-read.new.names texts names c.read_buffer-read.ensures.err in
     omega (arith, ap length more.1, length-append c.self.inside.names more.0, c.self.invariant.counted, c.len.ensures.count)
 
@@ -18,7 +19,7 @@ pub invariant_of-self : goal.invariant_of-self
 invariant_of-self c =
     let p = c.self.inside in
     let texts = names_in (kept_list_where c.args.allow_macros c.args.bytes.now) in
-    let names = on_value c.read_buffer-read.result (λ x r. r.numbered.names) c.read_buffer-read.ensures.read in
+    let names = on_value c.read_buffer-read.result (λ x r. r.numbered.names) c.read_buffer-read.ensures.ok in
     let extended = c.extend-extended.ensures in
     named_whole p.entries.items c.extend-extended.new.entries.items p.macros (name_table_view p) c.read_buffer-read.new.names c.self.invariant
     (appended c.read_buffer-read.result _ _ texts names c.read_buffer-read.ensures.err) (extended.entries c.self.invariant.entries)
@@ -26,8 +27,12 @@ invariant_of-self c =
     (no_error c.extend-extended.result c.is_err-else-is_err.result c.is_err-else-is_err.ensures.value c.if-is_err-2.false extended.ok
     ∙ c.len.ensures.count)
 
-pub returns-clause-sound : goal.returns-clause-sound
-returns-clause-sound c = (invariant_of-self c).sound
+pub returns-clause-names : goal.returns-clause-names
+returns-clause-names c = record {
+  lists = ap (λ (known : Collection). known.lists) c.self.view_is;
+  sound = (invariant_of-self c).sound;
+  err = grind arith;
+}
 
 -- the names that were added are taken back
 back : (c : Joined-read) → (c.keep_first.new.names ≡ c.self.inside.names) × IsNameTable (record {
@@ -39,7 +44,7 @@ back : (c : Joined-read) → (c.keep_first.new.names ≡ c.self.inside.names) ×
 back c =
     let p = c.self.inside in
     let texts = names_in (kept_list_where c.args.allow_macros c.args.bytes.now) in
-    let names = on_value c.read_buffer-read.result (λ x r. r.numbered.names) c.read_buffer-read.ensures.read in
+    let names = on_value c.read_buffer-read.result (λ x r. r.numbered.names) c.read_buffer-read.ensures.ok in
     let extended = c.extend-extended.ensures in
     rw (c.keep_first.ensures.names, c.keep_first.ensures.entries)
     (read_back p.entries.items c.extend-extended.new.entries.items p.macros (name_table_view p) c.read_buffer-read.new.names c.self.invariant
@@ -49,8 +54,9 @@ back c =
 pub invariant_of-self-then-is_err : goal.invariant_of-self-then-is_err
 invariant_of-self-then-is_err c = (back c).1
 
-pub returns-then-is_err-clause-sound : goal.returns-then-is_err-clause-sound
-returns-then-is_err-clause-sound c = (back c).1.sound
-
-pub returns-then-is_err-clause-err : goal.returns-then-is_err-clause-err
-returns-then-is_err-clause-err c = rw (back c).0 c.self.view_is
+pub returns-then-is_err-clause-names : goal.returns-then-is_err-clause-names
+returns-then-is_err-clause-names c = record {
+  lists = ap (λ (known : Collection). known.lists) c.self.view_is;
+  sound = (back c).1.sound;
+  err = rw (back c).0 c.self.view_is;
+}

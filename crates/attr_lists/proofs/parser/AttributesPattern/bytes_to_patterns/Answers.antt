@@ -8,5 +8,5 @@ pub returns : goal.returns
 returns c =
     let mappings = c.in_ok-mappings.mappings in
     forgotten_whole c.args.bytes.now c.new-names.result c.read_buffer.new.names mappings.items c.forget_all_numbers.new.mappings mappings.len
-    c.in_ok-mappings.dropped.items c.in_ok-mappings.ensures.read
+    c.in_ok-mappings.dropped.items c.in_ok-mappings.ensures.ok
     (c.forget_all_numbers.ensures ∙ ap (λ l. map forgotten (entries_view l)) c.deref_mut.ensures.value) (omega (arith, mappings.ok.0))

@@ -32,7 +32,7 @@ register-requires c =
       read = subst AreRead (sym ensured.read.numbered.lines)
           (numbered_read c.read_lines.new.self.names kept (kept_list_where-read c.args.list.allow_macros c.args.list.buffer.now));
       first = subst IsSoundCollection (sym (names_back kept (entries_view c.in_ok-patterns.patterns.items) c.args.collection.now
-          c.read_lines.new.self c.len-count.result c.len-count.ensures.count ensured.read.numbered ensured.lists)) c.len-count.ensures.sound;
+          c.read_lines.new.self c.len-count.result c.len-count.ensures.count ensured.read.numbered ensured.names.lists)) c.len-count.ensures.sound;
     }
 
 pub returns-in_err-indexed-clause-unchanged : goal.returns-in_err-indexed-clause-unchanged
@@ -41,7 +41,7 @@ returns-in_err-indexed-clause-unchanged c =
     c.in_err-indexed.ensures.refused
     ∙ names_back (kept_list_where c.args.list.allow_macros c.args.list.buffer.now) (entries_view c.in_ok-patterns.patterns.items)
     c.args.collection.now c.read_lines.new.self c.len-count.result c.len-count.ensures.count
-    c.in_ok-patterns.ensures.read.numbered c.in_ok-patterns.ensures.lists in
+    c.in_ok-patterns.ensures.read.numbered c.in_ok-patterns.ensures.names.lists in
     on_err c.from_residual-in_err-indexed.result same
 
 pub returns-in_err-indexed-clause-held : goal.returns-in_err-indexed-clause-held
@@ -50,7 +50,7 @@ returns-in_err-indexed-clause-held c held =
     c.in_err-indexed.ensures.refused
     ∙ names_back (kept_list_where c.args.list.allow_macros c.args.list.buffer.now) (entries_view c.in_ok-patterns.patterns.items)
     c.args.collection.now c.read_lines.new.self c.len-count.result c.len-count.ensures.count
-    c.in_ok-patterns.ensures.read.numbered c.in_ok-patterns.ensures.lists in
+    c.in_ok-patterns.ensures.read.numbered c.in_ok-patterns.ensures.names.lists in
     rw (same, c.in_ok-reserve.ensures.lists) held
 
 -- what the lines of the buffer are in the collection as it was passed
@@ -68,12 +68,12 @@ is_added c =
     let kept = kept_list_where c.args.list.allow_macros c.args.list.buffer.now in
     let ensured = c.in_ok-patterns.ensures in
     let facts = registers_numbered list_id kept (entries_view c.in_ok-patterns.patterns.items) c.args.collection.now c.read_lines.new.self
-    c.register.new.self ensured.sound.0 ensured.sound.1 ensured.read.numbered ensured.lists own.registered in
+    c.register.new.self ensured.sound ensured.names.sound ensured.read.numbered ensured.names.lists own.registered in
     record {
       registered = facts.0;
       lines = ap (λ l. entries_view l.patterns.items) own.same ∙ facts.1.lines;
       holds = subst (λ l. HoldsList c.register.new.self c.in_ok-indexed.indexed.list_id (entries_view l.patterns.items)) (sym own.same) own.holds;
-      others = stay_registered list_id kept c.args.collection.now c.register.new.self ensured.sound.0 facts.0;
+      others = stay_registered list_id kept c.args.collection.now c.register.new.self ensured.sound facts.0;
     }
 
 pub returns-clause-list : goal.returns-clause-list

@@ -42,7 +42,7 @@ register-requires c =
       numbered = lines_numbered_by _ _ _ _ (are_numbered _ _ _ _ _ _ _ c.self.view_is
           (ap entries_view c.deref_mut.ensures.value ∙ copied_lines c.args.list.now.patterns.items list.items c.in_ok-numbered.ensures.patterns)
           (ap entries_view (c.deref.ensures.value ∙ with_items_is list c.number.new.mappings kept))
-          c.in_ok-number.ensures.numbered c.number.ensures.lists);
+          c.in_ok-number.ensures.numbered c.number.ensures.names.lists);
     }
 
 pub take_back-requires : goal.take_back-requires
@@ -50,7 +50,7 @@ take_back-requires c =
     subst IsSoundCollection (sym (back _ _ _ _ _ _ _ c.self.view_is
     (ap entries_view c.deref_mut.ensures.value
     ∙ copied_lines c.args.list.now.patterns.items c.in_ok-numbered.numbered.patterns.items c.in_ok-numbered.ensures.patterns)
-    refl c.in_ok-number.ensures.numbered c.number.ensures.lists c.register.new.self c.len-count.result c.len-count.ensures.count
+    refl c.in_ok-number.ensures.numbered c.number.ensures.names.lists c.register.new.self c.len-count.result c.len-count.ensures.count
     c.in-Err.ensures.err)) c.len-count.ensures.sound
 
 pub invariant_of-self-in-Err : goal.invariant_of-self-in-Err
@@ -58,7 +58,7 @@ invariant_of-self-in-Err c =
     subst IsSoundCollection (sym (c.take_back.ensures ∙ back _ _ _ _ _ _ _ c.self.view_is
     (ap entries_view c.deref_mut.ensures.value
     ∙ copied_lines c.args.list.now.patterns.items c.in_ok-numbered.numbered.patterns.items c.in_ok-numbered.ensures.patterns)
-    refl c.in_ok-number.ensures.numbered c.number.ensures.lists c.register.new.self c.len-count.result c.len-count.ensures.count
+    refl c.in_ok-number.ensures.numbered c.number.ensures.names.lists c.register.new.self c.len-count.result c.len-count.ensures.count
     c.in-Err.ensures.err)) c.len-count.ensures.sound
 
 pub returns-in-Err-clause-refused : goal.returns-in-Err-clause-refused
@@ -66,7 +66,7 @@ returns-in-Err-clause-refused c =
     c.take_back.ensures ∙ back _ _ _ _ _ _ _ c.self.view_is
     (ap entries_view c.deref_mut.ensures.value
     ∙ copied_lines c.args.list.now.patterns.items c.in_ok-numbered.numbered.patterns.items c.in_ok-numbered.ensures.patterns)
-    refl c.in_ok-number.ensures.numbered c.number.ensures.lists c.register.new.self c.len-count.result c.len-count.ensures.count
+    refl c.in_ok-number.ensures.numbered c.number.ensures.names.lists c.register.new.self c.len-count.result c.len-count.ensures.count
     c.in-Err.ensures.err
 
 pub returns-in-Err-clause-sound : goal.returns-in-Err-clause-sound
@@ -81,8 +81,8 @@ returns-clause-numbered c =
     ∙ (registers _ _ _ _ _ _ _ c.self.view_is
     (ap entries_view c.deref_mut.ensures.value ∙ copied_lines c.args.list.now.patterns.items list.items c.in_ok-numbered.ensures.patterns)
     (ap entries_view (c.deref.ensures.value ∙ with_items_is list c.number.new.mappings kept))
-    c.in_ok-number.ensures.numbered c.number.ensures.lists c.in_default.field-0 c.register.new.self c.len-count.ensures.sound
-    c.number.ensures.sound c.in_default.ensures.registered).1.lines
+    c.in_ok-number.ensures.numbered c.number.ensures.names.lists c.in_default.field-0 c.register.new.self c.len-count.ensures.sound
+    c.number.ensures.names.sound c.in_default.ensures.registered).1.lines
 
 pub returns-clause-registered : goal.returns-clause-registered
 returns-clause-registered c =
@@ -93,8 +93,8 @@ returns-clause-registered c =
     let registered = (registers _ _ _ _ _ _ _ c.self.view_is
     (ap entries_view c.deref_mut.ensures.value ∙ copied_lines c.args.list.now.patterns.items list.items c.in_ok-numbered.ensures.patterns)
     (ap entries_view (c.deref.ensures.value ∙ with_items_is list c.number.new.mappings kept))
-    c.in_ok-number.ensures.numbered c.number.ensures.lists c.in_default.field-0 c.register.new.self c.len-count.ensures.sound
-    c.number.ensures.sound c.in_default.ensures.registered).0 in (
+    c.in_ok-number.ensures.numbered c.number.ensures.names.lists c.in_default.field-0 c.register.new.self c.len-count.ensures.sound
+    c.number.ensures.names.sound c.in_default.ensures.registered).0 in (
       c.in_default.field-0,
       registered,
       registers_more c.args.self.now c.register.new.self c.in_default.field-0 entries registered _ (returns-clause-numbered c)
