@@ -38,17 +38,17 @@ change_below left rest change bodies e below =
     rw (length-set bodies change.number change.body) (All-tail (λ c. c.number < length bodies) change rest all)
 
 -- bodies that were grown are cut to a count
-pub length_grown : (old grown cut : List SharedBody) (count : ℕ) →
-    bodies_view grown ≡ bodies_view old ++ replicate (count - length old) [] → cut ≡ take count grown → length cut ≡ count
-length_grown old grown cut count grows is = grind (arith, length-map, length-append, length-replicate, length-take)
-
--- and to as many as wanted
-pub cut_sized : (old grown cut : List SharedBody) (bodies : List (List TrackedAssignment)) (count n : ℕ) → count ≡ n → bodies_view old ≡ bodies →
-    bodies_view grown ≡ bodies_view old ++ replicate (count - length old) [] → cut ≡ take count grown → bodies_view cut ≡ sized_bodies n bodies
-cut_sized old grown cut bodies count n counted same grows is = grind (arith, length-map, take-map)
+pub cut_sized : (old grown cut : List SharedBody) (count : ℕ) →
+    bodies_view grown ≡ bodies_view old ++ replicate (count - length old) [] → cut ≡ take count grown →
+    bodies_view cut ≡ sized_bodies count (bodies_view old)
+cut_sized old grown cut count grows is = grind (arith, length-map, take-map)
 
 pub length_sized : (count : ℕ) (bodies : List (List TrackedAssignment)) → length (sized_bodies count bodies) ≡ count
 length_sized count bodies = grind (arith, length-append, length-replicate, length-take)
+
+pub length_resized : (cut : List SharedBody) (old : List (List TrackedAssignment)) (count : ℕ) → bodies_view cut ≡ sized_bodies count old
+    → length cut ≡ count
+length_resized cut old count is = grind (arith, length-map, length_sized)
 
 pub length_changed : (changes : List BodyChange) (bodies : List (List TrackedAssignment)) → length (changed_bodies changes bodies) ≡ length bodies
 length_changed [] bodies = refl

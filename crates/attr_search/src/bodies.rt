@@ -1,7 +1,7 @@
 //! What attributes are as macros: their definitions, by number. A definition is shared with the collection by a count.
 
-ghost use Rattle.std.specs.Prelude.{◌≡◌, ◌<◌, ◌-◌, ◌++◌, [], All, OnErr, OnOk, length, replicate, slice_index_or};
-ghost use Rattle.attr_search.specs.shared.BodyChanges.{changed_bodies};
+ghost use Rattle.std.specs.Prelude.{◌≡◌, ◌<◌, [], All, OnErr, OnOk, length, slice_index_or};
+ghost use Rattle.attr_search.specs.shared.BodyChanges.{changed_bodies, sized_bodies};
 ghost use Rattle.attr_search.specs.shared.Slotted.{bodies_view};
 
 use attr_lists::types::{Metadata, TrackedAssignment};
@@ -36,14 +36,14 @@ pub fn body_at(bodies: &[Option<Rc<Metadata>>], number: usize) -> &[TrackedAssig
     }
 }
 
-/// Appends places without a definition, until there are as many as the count if there were fewer.
+/// Makes as many places as the count: the last ones go, or ones without a definition come after the others.
 ///
 /// # Errors
 ///
 /// If memory runs out. The bodies are as they were then.
-pub fn grow(bodies: &mut Vec<Option<Rc<Metadata>>>, count: usize) -> Result<(), AllocError>
-    ensures ok { OnOk result (bodies_view bodies.new.items
-        ≡ bodies_view bodies.old.items ++ replicate (count - length bodies.old.items) []) }
+pub fn resize(bodies: &mut Vec<Option<Rc<Metadata>>>, count: usize) -> Result<(), AllocError>
+    ensures ok { OnOk result (
+        bodies_view bodies.new.items ≡ sized_bodies count (bodies_view bodies.old.items)) }
     ensures refused { OnErr result (bodies.new.items ≡ bodies.old.items) }
 {
     let before = bodies.len();
@@ -53,6 +53,7 @@ pub fn grow(bodies: &mut Vec<Option<Rc<Metadata>>>, count: usize) -> Result<(), 
             return Err(AllocError);
         }
     }
+    bodies.truncate(count);
     Ok(())
 }
 

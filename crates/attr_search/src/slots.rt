@@ -1,7 +1,7 @@
 //! What a search fills: a slot for each attribute. A slot has the answer for its attribute, or none. The wanted slots are
 //! those that a search looks for. It fills the needed slots alone, and skips the others.
 
-ghost use Rattle.std.specs.Prelude.{◌≡◌, Bool, List, ◌<◌, ◌≤◌, ◌*◌, ◌+◌, ◌-◌, ◌^◌, ◌&&◌, min, All, false, None, Some, [], IfOk, IfSome, OnErr, OnOk, MatchOption, is_none, is_some, length, map, not, option_map, slice_index_or, take};
+ghost use Rattle.std.specs.Prelude.{◌≡◌, Bool, List, ◌<◌, ◌≤◌, ◌*◌, ◌+◌, ◌-◌, ◌^◌, ◌&&◌, min, All, None, Some, [], IfOk, IfSome, OnErr, OnOk, MatchOption, is_none, is_some, length, map, not, option_map, slice_index_or, take};
 ghost use Rattle.attr_table.specs.Cut.{is_done};
 ghost use Rattle.attr_search.specs.Matches.{match_view};
 ghost use Rattle.attr_search.specs.Settings.{HaveSlots};
@@ -117,8 +117,7 @@ impl AnswerSlots {
         make_room(&mut self.slots, count)?;
         make_room(&mut self.is_open, count)?;
         make_room(&mut self.is_wanted, count)?;
-        bodies::grow(&mut self.bodies, count)?;
-        self.bodies.truncate(count);
+        bodies::resize(&mut self.bodies, count)?;
         bodies::change(&mut self.bodies, changes);
         empty(&mut self.slots, &mut self.is_open, &self.filled);
         self.filled.clear();
@@ -128,8 +127,6 @@ impl AnswerSlots {
         self.is_ordered = true;
         // There is room.
         self.slots.resize(count, None).unwrap();
-        self.is_open.resize(count, false).unwrap();
-        self.is_wanted.resize(count, false).unwrap();
         needed.write(&mut self.is_open, &self.needed);
         wanted.write(&mut self.is_wanted, &self.wanted);
         self.remaining = wanted.count();

@@ -1,8 +1,9 @@
 //! Flags of numbers: which ones a search looks for, and which ones it needs.
 
-ghost use Rattle.std.specs.Prelude.{◌≡◌, ◌<◌, ℕ, true, [], IfOk, OnErr, OnOk, length, replicate, set, slice_index_or, false, if◌then◌else◌};
+ghost use Rattle.std.specs.Prelude.{◌≡◌, ◌<◌, ◌≤◌, ℕ, true, [], IfOk, OnErr, OnOk, length, replicate, set, slice_index_or, false, if◌then◌else◌};
 ghost use Rattle.std.specs.BTreeSet.{contains};
 ghost use Rattle.std.specs.Ordering.{nat_cmp};
+ghost use Rattle.std.specs.Vec.{vec_capacity};
 ghost use Rattle.attr_search.specs.shared.SlotContents.{count_wanted};
 
 use std::alloc::{AllocError, Global};
@@ -116,20 +117,20 @@ impl WantedFlags {
     pub fn to_vec(&self, alloc: Global) -> Result<Vec<bool>, AllocError>
         ensures { IfOk result (λ flags. flags.items ≡ self.now) }
     {
-        let mut flags = Vec::new(alloc);
-        flags.resize(self.len(), false)?;
+        let mut flags = Vec::with_capacity(alloc, self.len())?;
         self.write(&mut flags, &WantedFlags::new(alloc));
         Ok(flags)
     }
 
-    /// Writes the flags over others of as many numbers, which have the flags before for those that had one. It costs what is set in
-    /// either, if not all are in one of them alone, and the numbers that are new.
+    /// Writes the flags in place of those before, of which there may be fewer or more. It costs what is set in either, if not all
+    /// are in one of them alone, and the numbers that are new.
     pub fn write(&self, flags: &mut Vec<bool>, before: &WantedFlags)
-        requires len { length flags.old.items ≡ length self.now }
-        requires before { (number : ℕ) → number < length self.now → number < length before.now →
-            slice_index_or flags.old.items number false ≡ slice_index_or before.now number false }
+        requires before { flags.old.items ≡ before.now }
+        requires room { length self.now ≤ vec_capacity flags.old }
         ensures { flags.new.items ≡ self.now }
     {
+        // There is room.
+        flags.resize(self.len, false).unwrap();
         let start = if self.all == before.all {
             before.len
         } else {

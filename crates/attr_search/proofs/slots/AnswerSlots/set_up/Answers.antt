@@ -9,8 +9,8 @@ use Rattle.attr_search.specs.inner.SlotsView.{BodiesFit}
 use Rattle.attr_search.specs.shared.BodyChanges.{changed_bodies, sized_bodies}
 use Rattle.std.specs.Vec.{vec_len}
 use Rattle.attr_search.specs.shared.Slotted.{BodiesHaveSlots, bodies_view}
-use Rattle.attr_search.proofs.BodyLemmas.{cut_sized, length_changed, length_grown, length_sized}
-use Rattle.attr_search.proofs.OpenLemmas.{flag_resized, open_all}
+use Rattle.attr_search.proofs.BodyLemmas.{length_changed, length_resized, length_sized}
+use Rattle.attr_search.proofs.OpenLemmas.{open_all}
 use Rattle.attr_search.proofs.SlotLemmas.{empty_listed, empty_resized, empty_seen, empty_within}
 use Rattle.attr_search.proofs.ListedLemmas.{rising_nothing}
 use Rattle.attr_search.proofs.WantedLemmas.{count_empty}
@@ -27,29 +27,24 @@ fitting bodies slots wanted changes old is cut within = record {
 }
 
 pub change-requires : goal.change-requires
-change-requires c = grind (arith, length_grown)
+change-requires c = grind (arith, length_resized)
 
 pub write-requires-clause-before : goal.write-requires-clause-before
-write-requires-clause-before c = λ number lt within.
+write-requires-clause-before c =
     let b = c.self.inside in
-    let opened = c.empty.ensures.opened b.needed (rw c.make_room.ensures.items c.self.invariant.needed_length)
-    (rw (c.make_room.ensures.items, c.make_room-2.ensures.items) c.self.invariant.opened) (rw c.deref.ensures.value c.self.invariant.filled_needed) in
-    let same : vec_len c.empty.new.is_open ≡ length b.needed = omega (arith, ap length opened) in
-    flag_resized b.needed c.resize-2.new.self.items (vec_len c.empty.new.is_open) c.len-count.result number same
-    (rw (← opened) (rw c.unwrap-2.ensures at c.resize-2.ensures.items)) (omega (arith, lt, c.requires.needed, c.len-count.ensures)) within
+    c.empty.ensures.opened b.needed (rw c.make_room.ensures.items c.self.invariant.needed_length)
+    (rw (c.make_room.ensures.items, c.make_room-2.ensures.items) c.self.invariant.opened) (rw c.deref.ensures.value c.self.invariant.filled_needed)
 
 pub invariant_of-self-2 : goal.invariant_of-self-2
 invariant_of-self-2 c =
     let b = c.self.inside in
     let wanted = c.args.wanted in
-    let slots = c.resize.new.self.items in
+    let slots = c.resize-2.new.self.items in
     let cut = empty_resized c.make_room.new.elements.items c.empty.new.slots.items slots
     (vec_len c.empty.new.slots) c.len-count.result wanted c.len-count.ensures
-    (omega arith) c.empty.ensures.items (rw c.unwrap.ensures at c.resize.ensures.items) in
+    (omega arith) c.empty.ensures.items (rw c.unwrap.ensures at c.resize-2.ensures.items) in
     let many : length slots ≡ length wanted = ap length cut ∙ length-map wanted (λ flag. None) in
-    let bodies = cut_sized b.bodies.items c.grow.new.bodies.items c.truncate.new.self.items _ c.len-count.result
-    (length wanted) c.len-count.ensures refl
-    c.in_ok-grow.ensures.ok c.truncate.ensures.items in
+    let bodies = c.in_ok-resize.ensures.ok ∙ ap (λ n. sized_bodies n (bodies_view b.bodies.items)) c.len-count.ensures in
     record {
       same_length = sym many;
       needed_length = c.requires.needed ∙ sym many;
@@ -70,11 +65,9 @@ pub returns-clause-ok : goal.returns-clause-ok
 returns-clause-ok c =
     let b = c.self.inside in
     let wanted = c.args.wanted in
-    let slots = c.resize.new.self.items in
+    let slots = c.resize-2.new.self.items in
     let cut = empty_resized c.make_room.new.elements.items c.empty.new.slots.items slots
     (vec_len c.empty.new.slots) c.len-count.result wanted c.len-count.ensures
-    (omega arith) c.empty.ensures.items (rw c.unwrap.ensures at c.resize.ensures.items) in
-    let bodies = cut_sized b.bodies.items c.grow.new.bodies.items c.truncate.new.self.items _ c.len-count.result
-    (length wanted) c.len-count.ensures refl
-    c.in_ok-grow.ensures.ok c.truncate.ensures.items in
+    (omega arith) c.empty.ensures.items (rw c.unwrap.ensures at c.resize-2.ensures.items) in
+    let bodies = c.in_ok-resize.ensures.ok ∙ ap (λ n. sized_bodies n (bodies_view b.bodies.items)) c.len-count.ensures in
     grind (arith, empty_seen, cut, bodies)

@@ -1,6 +1,6 @@
 use Rattle.std.proofs.Common.{◌≡◌, ◌++◌, ◌-◌, ◌<◌, [], replicate, take}
 use Rattle.attr_search.specs.shared.Slotted.{bodies_view}
-use Rattle.attr_search.proofs.bodies.grow.Given as goal
+use Rattle.attr_search.proofs.bodies.resize.Given as goal
 
 abbrev pub invariant-loop : goal.invariant-loop
 invariant-loop l = record {
