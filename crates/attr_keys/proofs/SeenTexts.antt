@@ -1,9 +1,11 @@
 -- Keys as they are read, and texts in lower case.
-use Rattle.std.proofs.Common.{arith, ◌≡◌, ℕ, suc, Bool, true, false, List, [], ◌∷◌, Option, Some, length, map, reverse, refl, sym, ap, ◌∙◌}
+use Rattle.std.proofs.Common.{arith, ◌≡◌, ◌<◌, ℕ, suc, Bool, true, false, List, [], ◌∷◌, Option, Some, length, get_or, map, reverse}
+use Rattle.std.proofs.Common.{refl, sym, ap, ◌∙◌}
 use Rattle.std.specs.Prelude.{option_map, slice_get}
 use Rattle.std.proofs.lemmas.Grind.{common_steps}
 use Rattle.std.proofs.lemmas.Bool.Decides.{nat_tests}
 use Rattle.std.proofs.lemmas.List.{length-map, length-reverse, map_push, reverse-append, reverse-reverse}
+use Rattle.std.proofs.lemmas.Option.{slice_get-get_or, slice_get-map}
 use Rattle.attr_keys.specs.declared.key.Key.{Key}
 use Rattle.attr_keys.specs.shared.KeyContents.{KeyContent}
 use Rattle.attr_keys.specs.inner.Cases.{content_in_case, in_case, seen, seen_keys}
@@ -22,6 +24,12 @@ directed_twice from_end text = grind (arith, nat_tests, reverse-reverse)
 pub codes_seen : (fold from_end : Bool) (key : Key) → codes_of fold (directed from_end key.text.now) key.is_whole
     ≡ key_codes (Some (seen fold from_end (key_content key)))
 codes_seen fold from_end key = grind (arith, nat_tests, codes_in_case, directed_twice)
+
+-- the key of a line
+pub row_is : {K : Type 0} (content : K → KeyContent) (lines : List K) (row : ℕ) (line : K) (key : Key) → row < length lines →
+    line ≡ get_or lines row line → key_content key ≡ content line → slice_get (map content lines) row ≡ Some (key_content key)
+row_is content lines row line key lt at is =
+    slice_get-map content lines row ∙ ap (option_map content) (slice_get-get_or lines row line lt ∙ ap Some (sym at)) ∙ ap Some (sym is)
 
 -- the codes of the key of a line
 pub row_seen : {K : Type 0} (content : K → KeyContent) (fold from_end : Bool) (lines : List K) (row : ℕ) (line : Option K) →

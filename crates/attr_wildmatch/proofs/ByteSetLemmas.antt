@@ -1,5 +1,5 @@
 -- A byte that is put into a set, and the bytes that the members of a bracket put in.
-use Rattle.std.proofs.Common.{◌≡◌, ℕ, ◌*◌, ◌/◌, ◌%◌, ◌^◌, ◌<◌, Bool, true, ◌||◌, ◌==◌, ◌&&◌, bit_or, List}
+use Rattle.std.proofs.Common.{◌≡◌, ℕ, ◌+◌, ◌*◌, ◌/◌, ◌%◌, ◌^◌, ◌<◌, nat_lt, Bool, true, ◌||◌, ◌==◌, ◌&&◌, bit_or, List}
 use Rattle.std.proofs.Common.{length, get_or, set, inl, inr, arith, get_or-set_same, get_or-set_other}
 use Rattle.std.proofs.lemmas.Bool.{cases_eq}
 use Rattle.std.proofs.lemmas.Bool.Decides.{nat_tests}
@@ -29,3 +29,8 @@ marked words n k within =
 
 pub one_held : (old : Bool) (held : ℕ → Bool) (b n : ℕ) → held n ≡ true → (old || b == n) ≡ (old || (held b && b == n))
 one_held old held b n h = grind (arith, nat_tests, cases_eq)
+
+-- those below the next n
+pub next_held : (new old start held : Bool) (b n : ℕ) → new ≡ (old || (held && b == n)) → old ≡ (start || (held && nat_lt b n)) →
+    new ≡ (start || (held && nat_lt b (n + 1)))
+next_held new old start held b n more before = grind (arith, nat_tests, cases_eq, more, before)

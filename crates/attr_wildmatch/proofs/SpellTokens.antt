@@ -4,6 +4,7 @@ use Rattle.std.proofs.Common.{◌≡◌, ◌≤◌, ◌<◌, ℕ, zero, suc, Boo
 use Rattle.std.proofs.Common.{Some, refl, sym, ap, subst, ◌∙◌, arith, append-nil}
 use Rattle.std.proofs.lemmas.Bool.Decides.{nat_tests}
 use Rattle.std.proofs.lemmas.Bool.{and_from, and_parts, eq-eqb, eqb-false, eqb-true, ne_eqb, or_left, or_right}
+use Rattle.std.proofs.lemmas.Option.{same_Some}
 use Rattle.attr_wildmatch.specs.declared.bracket.Member.{Member}
 use Rattle.attr_wildmatch.specs.Bytes.{exclamation_mark, asterisk, question_mark, open_bracket, backslash, caret}
 use Rattle.attr_wildmatch.specs.Brackets.{negates, begins, members}
@@ -168,6 +169,10 @@ spelled text ts h = tokens_spelled (length text) true text ts h
 
 pub read_back : (text : List ℕ) (ts : List Token) → AreTokens true text ts → tokens text ≡ Some ts
 read_back text ts h = tokens_read (length text) true text ts (omega arith) h
+
+-- a text spells only one list of tokens
+pub only_spelled : (text : List ℕ) (ts us : List Token) → tokens text ≡ Some ts → AreTokens true text us → ts ≡ us
+only_spelled text ts us is are = same_Some ts us (sym is ∙ read_back text us are)
 
 -- a directory star is spelled only where git has one
 bordered_spelled : (border : Bool) (text : List ℕ) (ts : List Token) → AreTokens border text ts → is_bordered border ts ≡ true

@@ -1,5 +1,5 @@
-use Rattle.std.proofs.Common.{◌≡◌, ℕ, ◌+◌, ◌<◌, List, [], ◌∷◌, ◌++◌, length, get_or, take, map, arith}
-use Rattle.std.proofs.lemmas.List.{map-append, take_more}
+use Rattle.std.proofs.Common.{◌≡◌, ℕ, ◌+◌, ◌<◌, List, [], ◌∷◌, ◌++◌, length, get_or, take, map, ap, ◌∙◌, arith}
+use Rattle.std.proofs.lemmas.List.{map-append, take_all, take_more}
 use Rattle.attr_search.specs.declared.indexed_list.IndexedList.{IndexedList}
 use Rattle.attr_search.specs.IndexedLists.{listed_view}
 use Rattle.attr_search.proofs.indexed_lists.IndexedLists.clone.Goals as goal
@@ -18,3 +18,9 @@ loop-list-preserved c =
       copied_more listed_view all _ _ _ _ c.in_ok-list.list lt is pushed c.in_ok-list.ensures.list c.loop-list.invariant.0,
       copied_more (λ l. l.list_id) all _ _ _ _ c.in_ok-list.list lt is pushed c.in_ok-list.ensures.list_id c.loop-list.invariant.1,
     )
+
+pub returns-clause-lists : goal.returns-clause-lists
+returns-clause-lists c =
+    let all = c.args.self.now.lists.items in
+    let whole = rw c.deref-list-items.ensures.value at c.loop-list-test.false in
+    c.loop-list.invariant.0 ∙ ap (map listed_view) (take_all c.loop-list.list-index all (omega (arith, whole)))

@@ -1,9 +1,10 @@
-use Rattle.std.proofs.Common.{ap, refl, inr, arith}
+use Rattle.std.proofs.Common.{◌∙◌, ap, refl, inr, arith}
 use Rattle.std.proofs.lemmas.Result.{on_ok_weaker}
 use Rattle.attr_search.specs.IndexedLists.{listed_view}
 use Rattle.attr_search.specs.inner.Searched.{over, round}
 use Rattle.attr_search.specs.shared.SlotContents.{open_slots}
 use Rattle.attr_search.specs.shared.Slotted.{index_origin}
+use Rattle.attr_search.proofs.EntryAtLemmas.{entry_is}
 use Rattle.attr_search.proofs.LineLemmas.{line_defines, line_differs, line_filled, line_matched, named_at, none_told, origin_is, slots_at}
 use Rattle.attr_search.proofs.SearchedLemmas.{state_kept}
 use Rattle.attr_search.proofs.search_state.SearchState.search_line.Goals as goal
@@ -21,6 +22,11 @@ returns-then-is_none c = record {
   done = line_filled c.args.rest c.args.list.now c.args.index _ c.in-Some.items.now _ c.requires.index c.index-mapping.ensures
       c.in-Some.ensures.items (none_told _ (open_slots c.args.self.now.slots) _ _ c.last_free.ensures c.if-is_none.ensures);
 }
+
+pub matches-requires-clause-no_macro : goal.matches-requires-clause-no_macro
+matches-requires-clause-no_macro c =
+    ap (λ e. e.macro) (entry_is c.args.list.now.list.patterns.items c.args.index c.index-mapping.result.now c.requires.index c.index-mapping.ensures)
+    ∙ c.in-Some.ensures.line
 
 pub returns-then-not-branch : goal.returns-then-not-branch
 returns-then-not-branch c =

@@ -1,5 +1,5 @@
 use Rattle.std.proofs.Common.{arith, refl}
-use Rattle.std.proofs.lemmas.List.{length-append}
+use Rattle.std.proofs.lemmas.List.{length-append, length-map}
 use Rattle.attr_search.specs.inner.PartsView.{origin_of_line, parts_view}
 use Rattle.attr_search.specs.inner.SlotsView.{kept_parts}
 use Rattle.attr_search.proofs.PartLemmas.{grows_pushed, grows_same, last_pushed}
@@ -14,3 +14,6 @@ returns-clause-begun c =
     let stay = matches_stay (kept_parts c.self.inside) (parts_view lines c.self.inside.items.items c.self.inside.bodies.items)
     c.self.inside.slots.items (record { lines = grows; items = grows_same _; bodies = refl }) c.self.invariant.within in
     grind (arith, last_pushed, length-append)
+
+pub returns-clause-bodies : goal.returns-clause-bodies
+returns-clause-bodies c = grind (arith, length-map, c.self.invariant.bodies)

@@ -41,6 +41,19 @@ returns c =
     c.loop-alloc.invariant.kept c.loop-alloc.invariant.by (c.loop-alloc.invariant.filled (open_slots now) now.taken ends) in
     record { kept = done.0; done = done.1 }
 
+pub fill-requires-clause-inside : goal.fill-requires-clause-inside
+fill-requires-clause-inside c =
+    let is = c.items-items.ensures ∙ ap (λ bodies. items_beside c.args.line.items.now bodies c.loop-alloc.at.cause) c.bodies.ensures.bodies in
+    let last = rw is at c.in-Some.ensures in
+    omega (arith, last.before, c.loop-alloc.invariant.at_line.within.index)
+
+pub fill-requires-clause-own : goal.fill-requires-clause-own
+fill-requires-clause-own c =
+    let is = c.items-items.ensures ∙ ap (λ bodies. items_beside c.args.line.items.now bodies c.loop-alloc.at.cause) c.bodies.ensures.bodies in
+    let items = items_beside c.args.line.items.now c.loop-alloc.self.bodies c.loop-alloc.at.cause in
+    let own : c.index-items-index.result ≡ get_or items c.in-Some.index no_item = grind (arith, is, get_or_default) in
+    ap (λ item. item.id.0) own
+
 pub loop-alloc-smaller-in-Some-end_of_body : goal.loop-alloc-smaller-in-Some-end_of_body
 loop-alloc-smaller-in-Some-end_of_body c =
     let now = c.loop-alloc.self in

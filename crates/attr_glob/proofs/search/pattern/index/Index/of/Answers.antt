@@ -37,3 +37,9 @@ returns-clause-patterns g c =
     let same : indexed_lines c.loop-mapping.lines.items ≡ listed_lines mappings =
     c.loop-mapping.invariant.lines ∙ ap listed_lines (take_whole mappings c.loop-mapping.mapping-index all) in
     patterns_same c.loop-mapping.lines.items mappings same
+
+pub returns-clause-lines : goal.returns-clause-lines
+returns-clause-lines g c =
+    let mappings = c.args.list.now.patterns.items in
+    let all : length mappings ≤ c.loop-mapping.mapping-index = grind (arith, c.loop-mapping-test.false, c.deref-mapping-items.ensures.value) in
+    c.loop-mapping.invariant.lines ∙ ap listed_lines (take_whole mappings c.loop-mapping.mapping-index all)
