@@ -1,9 +1,8 @@
 //! Lists are added and removed.
 
-ghost use Rattle.std.specs.Prelude.{◌≡◌, ◌⊎◌, ◌↔◌, IfOk, IsUtf8, MatchOption, None, Some, false, length, option_map};
+ghost use Rattle.std.specs.Prelude.{◌≡◌, ◌⊎◌, ◌↔◌, IsUtf8, MatchOption, None, Some, false, length, option_map};
 ghost use Rattle.std.specs.Option.{option_copied};
 ghost use Rattle.gix_attributes.specs.EngineStates.{with_addition, with_list_below, without_last};
-ghost use Rattle.attr_glob.specs.Bases.{with_slash};
 ghost use Rattle.attr_glob.specs.Views.{base_bytes};
 ghost use Rattle.gix_attributes.specs.KeptLists.{dropped_lines};
 ghost use Rattle.yektrod.specs.Held.{HasNoList, dropped_held, held, sourced};
@@ -17,7 +16,7 @@ ghost use Rattle.yektrod.specs.Statuses.{status_done, status_missing, status_no_
 use crate::slot::Slot;
 use crate::sourced::SourcedList;
 use crate::status::{DONE, MISSING, NO_LIST, NO_MEMORY, SHUT, UNREADABLE};
-use gix_attributes::glob::search::pattern::base_of;
+use gix_attributes::glob::search::pattern::{base_of, base_of_directory};
 use gix_attributes::search::DropReason;
 use std::alloc::{AllocError, Global};
 
@@ -184,18 +183,6 @@ fn list_of<'a>(
         base,
         buffer,
     }
-}
-
-// The base of a list that applies below a directory: it with a slash after it, and none of the empty one.
-fn base_of_directory(alloc: Global, directory: &[u8]) -> Result<Option<Vec<u8>>, AllocError>
-    ensures { IfOk result (λ base. base_bytes base ≡ with_slash directory.now) }
-{
-    if directory.is_empty() {
-        return Ok(None);
-    }
-    let mut base = Vec::from_slice(alloc, directory)?;
-    base.push(b'/')?;
-    Ok(Some(base))
 }
 
 /// Removes the last list.

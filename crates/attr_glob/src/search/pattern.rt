@@ -164,7 +164,7 @@ pub fn base_of(
         return Ok(None);
     };
     match below_root(root.as_bytes(), directory(source.as_bytes())) {
-        Some(below) => with_slash(alloc, below),
+        Some(below) => base_of_directory(alloc, below),
         None => Ok(None),
     }
 }
@@ -194,7 +194,12 @@ fn below_root<'a>(root: &[u8], directory: &'a [u8]) -> Option<&'a [u8]>
     }
 }
 
-fn with_slash(alloc: Global, directory: &[u8]) -> Result<Option<Vec<u8>>, AllocError>
+/// The base of a list that applies below a directory: the directory with a slash after it, and none of the empty one.
+///
+/// # Errors
+///
+/// If memory runs out.
+pub fn base_of_directory(alloc: Global, directory: &[u8]) -> Result<Option<Vec<u8>>, AllocError>
     ensures { IfOk result (λ base. base_bytes base ≡ with_slash directory.now) }
 {
     if directory.is_empty() {
