@@ -3,7 +3,7 @@
 crates/*/must-fail/*.edit, which `rt ci` tries.
 
 usage: mutants.py                  checks that each can be applied: it takes a second and proves nothing
-       mutants.py sample           tries those that each gate tries, and a twentieth of the others, drawn by the crates' files
+       mutants.py sample           tries those that each gate tries, and six others of two crates, drawn by the crates' files
        mutants.py all              tries all, which takes an hour of two processors
        mutants.py CRATE [NAME..]   tries those of a crate, or only these
 
@@ -158,9 +158,12 @@ class Mutant:
         self.crate, self.name, self.text = crate, name, text
         self.functions = set()
 
-    def is_drawn(self, seed):
-        digest = hashlib.sha256(f'{seed} {self.crate.name} {self.name}'.encode()).digest()
-        return self.text.startswith(ALWAYS) or digest[0] % 20 == 0
+    def is_always_tried(self):
+        return self.text.startswith(ALWAYS)
+
+    def lot(self, seed):
+        """What decides when it is drawn."""
+        return hashlib.sha256(f'{seed} {self.crate.name} {self.name}'.encode()).digest()
 
     def apply(self, files):
         """The changed files, of which some may have been changed by others."""
@@ -360,12 +363,14 @@ def sum_of_crates():
 
 def sample():
     """The crates with the mutants that a gate tries, which are none that change no function: these take too long."""
+    mutants = [Mutant(crate, *it) for crate in crates() for it in crate.texts()[0]]
+    mutants = [it for it in mutants if it.apply({}) and it.functions]
     seed = sum_of_crates()
-    for crate in crates():
-        mutants = [Mutant(crate, *it) for it in crate.texts()[0]]
-        drawn = [it for it in mutants if it.apply({}) and it.functions and it.is_drawn(seed)]
-        if drawn:
-            yield crate, drawn
+    others = sorted((it for it in mutants if not it.is_always_tried()), key=lambda it: it.lot(seed))
+    drawn = list(dict.fromkeys(it.crate for it in others))[:2]
+    chosen = [it for it in mutants if it.is_always_tried()] + [it for it in others if it.crate in drawn][:6]
+    for crate in dict.fromkeys(it.crate for it in chosen):
+        yield crate, [it for it in chosen if it.crate is crate]
 
 
 def named(these, names):
