@@ -333,14 +333,15 @@ def try_round(crate, these, room):
         these = Round([it for it in these.mutants if it not in lost])
 
 
-def try_crate(crate, mutants, room):
-    shutil.copytree(room, f'{room}.{crate.name}', copy_function=link)
+def try_rounds(room, crate, rounds):
+    """The results of rounds, one after another in a copy of the crates."""
     results = []
-    for these in rounds_of(mutants):
-        for mutant, kind, text in try_round(crate, these, f'{room}.{crate.name}'):
-            results.append((kind, mutant))
-            print(f'{crate.name}/{mutant.name}: {kind}: {text[:200]}', flush=True)
-    shutil.rmtree(f'{room}.{crate.name}')
+    with tempfile.TemporaryDirectory(dir=os.path.dirname(room)) as copy:
+        shutil.copytree(room, copy, copy_function=link, dirs_exist_ok=True)
+        for these in rounds:
+            for mutant, kind, text in try_round(crate, these, copy):
+                results.append((kind, mutant))
+                print(f'{crate.name}/{mutant.name}: {kind}: {text[:200]}', flush=True)
     return results
 
 
@@ -399,14 +400,18 @@ def check():
 
 
 def try_all(chosen, is_built):
+    """Side by side, but one after another where the first has to prove the crates below."""
     with tempfile.TemporaryDirectory() as top:
         room = top + '/room'
         os.mkdir(room)
         copy_crates(room)
+        lots = [(crate, rounds_of(mutants)) for crate, mutants in chosen]
         if is_built:
             stamp(room)
+            lots = [(crate, [these]) for crate, rounds in lots for these in rounds]
+            lots.sort(key=lambda lot: len(lot[1][0].mutants), reverse=True)
         with concurrent.futures.ThreadPoolExecutor(len(os.sched_getaffinity(0))) as pool:
-            runs = [pool.submit(try_crate, crate, mutants, room) for crate, mutants in chosen]
+            runs = [pool.submit(try_rounds, room, *lot) for lot in lots]
             return [it for run in runs for it in run.result()]
 
 
