@@ -7,7 +7,7 @@ library = clients/rust/target/yektrod
 .PHONY: help try prove check-attr test gate dist dist-aarch64 install clean
 help:
 	@echo 'make try            plays a script by the program, unproved: a minute'
-	@echo 'make prove          proves all crates, and builds the library for C: some 40 minutes the first time'
+	@echo 'make prove          proves all crates, and builds the library for C: up to an hour the first time'
 	@echo 'make check-attr     builds clients/rust/target/release/check-attr over the library, which is proved first if it is not there'
 	@echo 'make test           checks what needs no proof: a minute'
 	@echo 'make gate           proves and tests everything from nothing: an hour or more'
