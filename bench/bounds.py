@@ -78,6 +78,12 @@ def listed_paths(count, paths):
         ask(WHOLE % (index * 37 % count)) for index in range(paths))
 
 
+def deep_paths(depth, paths):
+    """A list of a directory so deep, among others, and as many paths in the directory."""
+    directory = "directory/" * depth
+    return add(b"* a\n") * 5 + add(b"* b\n", directory + ".gitattributes") + ask(directory + "b") * paths
+
+
 # Each with its name, what is compared, the count, the script, two sizes, and the most that the result may be.
 BOUNDS = [
     ("alike-hashes", "names that share a hash, and a path for each: instructions grow no faster than twofold",
@@ -87,6 +93,8 @@ BOUNDS = [
      Counter.quotient, whole_paths, (1_000, 2_000), 1.2),
     ("paths-listed", "paths that a list has, asked one by one: what a path costs does not grow with the list",
      Counter.paths, listed_paths, (1_000, 16_000), 1.2),
+    ("directory-kept", "paths in one directory, eight times as deep: its directories are looked up, and not hashed again",
+     Counter.paths, deep_paths, (4, 32), 2),
     ("names-known", "paths without a selection: what a path costs does not grow with the names that are known",
      Counter.paths, lambda n, paths: known(n) + ask("b") * paths, (200, 3_200), 1.2),
     ("names-found", "paths without a selection, with two answers each: the same",

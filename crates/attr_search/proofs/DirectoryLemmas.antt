@@ -1,20 +1,21 @@
 -- The lists that apply to a path are found by the keys of its directories.
 use Rattle.std.proofs.Common.{◌≡◌, ◌≢◌, map, ℕ, suc, ◌+◌, ◌-◌, ◌<◌, ◌≤◌, inl, inr, false, List, [], ◌∷◌, ◌++◌, length}
-use Rattle.std.proofs.Common.{get_or, take, drop, min, Option, Some, None, refl, sym, ap, subst, ◌∙◌, arith}
+use Rattle.std.proofs.Common.{get_or, nat_eq, true, take, drop, min, Option, Some, None, refl, sym, ap, subst, ◌∙◌, arith}
 use Rattle.std.specs.Prelude.{Contains, option_map, slice_get, slice_index}
 use Rattle.std.specs.Char.{is_ascii_uppercase}
 use Rattle.std.specs.List.{list_any, range_with_len}
 use Rattle.std.specs.Hash.DefaultHasher as sip
 use Rattle.std.specs.declared.hash.DefaultHasher.{DefaultHasher}
 use Rattle.std.proofs.Math.Seq.{take-add, take-append_seam}
-use Rattle.std.proofs.lemmas.Bool.Decides.{eqb_tells}
+use Rattle.std.proofs.lemmas.Bool.Decides.{eqb_tells, nat_tests}
 use Rattle.std.proofs.lemmas.List.Elements.{Contains-get_or}
 use Rattle.std.proofs.lemmas.List.FromFn.{get_or-range_with_len}
 use Rattle.std.proofs.lemmas.List.Sorted.{IsNonDecreasingBy-from_default}
-use Rattle.std.proofs.lemmas.List.{get_or-map, get_or-take, length-append, length-map, length-take, map-append, take-map, take-take}
+use Rattle.std.proofs.lemmas.List.{get_or-map, get_or-take, get_or_default, length-append, length-map, length-take, map-append, take-map, take-take}
 use Rattle.std.proofs.lemmas.List.Sums.{fold-append}
+use Rattle.std.proofs.lemmas.Map.Views.{Contains-from_any}
 use Rattle.std.proofs.lemmas.Option.{slice_get-map, slice_get_within, same_Some}
-use Rattle.std.proofs.lemmas.Bool.{or_parts}
+use Rattle.std.proofs.lemmas.Bool.{cases_lt, or_parts}
 use Rattle.std.proofs.lemmas.Slice.Eq.{bytes_eq-Decides}
 use Rattle.attr_wildmatch.proofs.ForCallers.{by_test}
 use Rattle.attr_glob.specs.Bases.{rest_below}
@@ -25,10 +26,9 @@ use Rattle.attr_wildmatch.specs.declared.case.Case.{Case}
 use Rattle.attr_wildmatch.specs.declared.case.Case.TheVariants.{Fold}
 use Rattle.attr_search.specs.declared.indexed_list.IndexedList.{IndexedList}
 use Rattle.attr_search.specs.inner.BaseKeys.{base_keys, directory_of, key_in, longest_base}
-use Rattle.attr_search.proofs.KeyedLemmas.{below_or}
 use Rattle.attr_search.specs.inner.FoundLists.{AreListsFor}
 use Rattle.attr_wildmatch.specs.Slashes.{ends_in_slash}
-use Rattle.attr_search.specs.inner.DirectoryKeys.{GathersDirectories, HasNumbersOf, Includes, base_directory, keys_of, text_key}
+use Rattle.attr_search.specs.inner.DirectoryKeys.{GathersKeys, HasKeysBelow, HasNumbersOf, IsDirectoryOf, base_directory, keys_of, text_key}
 
 -- what lists have, after one more and after one less
 pub mapped_pushed : {X : Type 0} (f : X → ℕ) (keys : List ℕ) (xs : List X) (x : X) → keys ≡ map f xs → keys ++ f x ∷ [] ≡ map f (xs ++ x ∷ [])
@@ -65,14 +65,14 @@ pub hashed_none : (hasher : DefaultHasher) → hasher ≡ sip.initial → hasher
 unfolding sip.write
 hashed_none hasher is = is
 
--- one more offset
-pub gathered_on : (keys text : List ℕ) (k : ℕ) (found more : List ℕ) → GathersDirectories keys text k found → Includes found more →
-    HasNumbersOf keys more (text_key (take (k + 1) text)) → GathersDirectories keys text (k + 1) more
-gathered_on keys text k found more gathers kept own = grind (arith, below_or)
-
-pub gathered_past : (keys text : List ℕ) (k : ℕ) (found : List ℕ) → GathersDirectories keys text k found → (slice_index text k ≡ slash → ⊥) →
-    GathersDirectories keys text (k + 1) found
-gathered_past keys text k found gathers other = grind (arith, below_or)
+-- all directories in front of a text are in front of its directory
+pub keys_of_text : (text directory keys : List ℕ) → IsDirectoryOf text directory → HasKeysBelow directory (length directory) keys →
+    HasKeysBelow text (length text) keys
+keys_of_text text directory keys is has = λ offset lt ends.
+    elim (cases_lt offset (length directory)) [
+      | inl inside ↦ grind (arith, get_or-take, take-take, is.front, has offset inside)
+      | inr past ↦ absurd (is.rest offset past lt ends)
+    ]
 
 pub small_same : (text : List ℕ) → list_any is_ascii_uppercase text ≡ false → folded Fold text ≡ text
 small_same [] none = refl
@@ -121,20 +121,29 @@ base_ends None case path rest longest le ends is = absurd (omega (arith, ends))
 base_ends (Some base) case path rest longest le ends is =
     by_test (ends_in_slash base) (λ t. grind (arith, text_ends)) (λ f. absurd (grind (arith, f, ends)))
 
+-- one of the keys that were looked for
+each_key : (keys wanted found : List ℕ) (key : ℕ) → GathersKeys keys wanted (length wanted) found → list_any (nat_eq key) wanted ≡ true →
+    HasNumbersOf keys found key
+each_key keys wanted found key gathers has =
+    let at = Contains-from_any {eq = nat_eq} (λ x y same. grind (arith, nat_tests, same)) key wanted has in
+    let is : slice_index wanted at.0 ≡ key = grind (arith, get_or_default, at.1, at.2) in
+    subst (HasNumbersOf keys found) is (gathers.each at.0 at.1)
+
 -- a list that applies to the path is found
-pub list_found : (lists : List IndexedList) (path found rest : List ℕ) (longest : ℕ) (case : Case) (number : ℕ) (list : IndexedList) →
+pub list_found : (lists : List IndexedList) (path wanted found rest : List ℕ) (longest : ℕ) (case : Case) (number : ℕ) (list : IndexedList) →
     longest_base lists ≤ longest →
-    GathersDirectories (base_keys case lists) (folded case (take (min (length path) longest) path))
-    (length (folded case (take (min (length path) longest) path))) found →
+    (let read = folded case (take (min (length path) longest) path) in HasKeysBelow read (length read) wanted) →
+    GathersKeys (base_keys case lists) wanted (length wanted) found →
     slice_get lists number ≡ Some list → list.is_idle ≡ false → rest_below (base_bytes list.list.base) case path ≡ Some rest →
     Contains found number
-list_found lists path found rest longest case number list le gathers has busy applies =
+list_found lists path wanted found rest longest case number list le knows gathers has busy applies =
     let keyed : slice_get (base_keys case lists) number ≡ Some (text_key (folded case (directory_of list))) =
     slice_get-map (key_in case) lists number ∙ ap (option_map (key_in case)) has ∙ ap Some (key_of case list (list.based busy)) in
     elim (eqb_tells (slice_index (directory_of list) (length (directory_of list) - 1)) slash) [
       | inl ends ↦
           let at = base_ends (base_bytes list.list.base) case path rest longest (one_within lists number list longest has le) ends.1 applies in
-          gathers.below at.offset at.within at.ends number (keyed ∙ ap (λ t. Some (text_key t)) at.same)
+          each_key (base_keys case lists) wanted found (text_key (folded case (directory_of list))) gathers
+          (subst (λ t. list_any (nat_eq (text_key t)) wanted ≡ true) (sym at.same) (knows at.offset at.within at.ends)) number keyed
       | inr other ↦
           gathers.empty number (keyed ∙ ap (λ t. Some (text_key t)) (no_directory (base_bytes list.list.base) case other.1))
     ]

@@ -4,12 +4,11 @@ ghost use Rattle.std.specs.Prelude.{◌≡◌, ◌↔◌, ◌<◌, ◌≤◌, �
 ghost use Rattle.std.specs.List.{IsDistinct, list_any};
 ghost use Rattle.attr_wildmatch.specs.declared.case.Case.TheVariants.{Sensitive, Fold};
 ghost use Rattle.attr_search.specs.inner.BaseKeys.{base_keys, longest_base};
-ghost use Rattle.attr_search.specs.inner.DirectoryKeys.{GathersDirectories};
-ghost use Rattle.attr_glob.specs.Folding.{folded};
+ghost use Rattle.attr_search.specs.inner.DirectoryKeys.{GathersKeys};
 ghost use Rattle.attr_search.specs.IndexedLists.{listed_view, list_ids_of};
 ghost use Rattle.attr_wildmatch.specs.declared.case.Case.{Case};
 
-use crate::directory_keys::{FrontHasher, base_directory, fold_into};
+use crate::directory_keys::{PathKeys, base_directory, text_key};
 use crate::indexed_list::IndexedList;
 use crate::numbers_by_key::NumbersByKey;
 use attr_glob::pattern::Case;
@@ -146,7 +145,7 @@ impl IndexedLists {
     }
 
     /// Finds the numbers of the lists that apply to a path in a case, and maybe of others. They don't fall, and take the
-    /// place of what the buffer had. `small` is another buffer.
+    /// place of what the buffer had. `known` is kept from path to path.
     ///
     /// # Errors
     ///
@@ -155,35 +154,32 @@ impl IndexedLists {
         &self,
         path: &[u8],
         case: Case,
-        small: &mut Vec<u8>,
+        known: &mut PathKeys,
         numbers: &mut Vec<usize>,
     ) -> Result<(), AllocError>
         ensures { OnOk result (AreListsFor case path.now self.now.lists.items numbers.new.items) }
     {
+        known.read(&path[..path.len().min(self.longest)], case)?;
         numbers.clear();
-        self.gather(&path[..path.len().min(self.longest)], case, small, numbers)?;
+        self.gather(case, &known.keys, numbers)?;
         numbers.sort_unstable();
         Ok(())
     }
 
-    // Appends the numbers of the lists whose key, in a case, a directory in front of the text has, or the empty one.
-    fn gather(
-        &self,
-        text: &[u8],
-        case: Case,
-        small: &mut Vec<u8>,
-        numbers: &mut Vec<usize>,
-    ) -> Result<(), AllocError>
-        ensures { OnOk result (let read = folded case text.now in GathersDirectories
-            (base_keys case self.now.lists.items) read (length read) numbers.new.items) }
+    // Appends the numbers of the lists that have one of the keys in a case, or that of the empty directory.
+    fn gather(&self, case: Case, keys: &[u64], numbers: &mut Vec<usize>) -> Result<(), AllocError>
+        ensures { OnOk result (GathersKeys (base_keys case self.now.lists.items) keys.now
+            (length keys.now) numbers.new.items) }
     {
-        match case {
-            Case::Sensitive => append_directories(&self.spelled, text, numbers),
-            Case::Fold => {
-                fold_into(text, small)?;
-                append_directories(&self.folded, small, numbers)
-            }
+        let by_key = match case {
+            Case::Sensitive => &self.spelled,
+            Case::Fold => &self.folded,
+        };
+        by_key.append(text_key(b""), numbers)?;
+        for key in keys {
+            by_key.append(*key, numbers)?;
         }
+        Ok(())
     }
 }
 
@@ -213,23 +209,4 @@ fn has_id(lists: &[IndexedList], list_id: usize) -> bool
     ensures { result ≡ list_any (λ list. nat_eq list.list_id list_id) lists.now }
 {
     lists.iter().any(|list| list.list_id == list_id)
-}
-
-// Appends the numbers that have the key of a directory in front of the text, or of the empty one.
-fn append_directories(
-    by_key: &NumbersByKey,
-    text: &[u8],
-    numbers: &mut Vec<usize>,
-) -> Result<(), AllocError>
-    ensures { OnOk result (GathersDirectories by_key.now.keys text.now (length text.now)
-        numbers.new.items) }
-{
-    let mut front = FrontHasher::new();
-    by_key.append(front.key(text, 0), numbers)?;
-    for offset in 0..text.len() {
-        if text[offset] == b'/' {
-            by_key.append(front.key(text, offset + 1), numbers)?;
-        }
-    }
-    Ok(())
 }

@@ -15,6 +15,7 @@ ghost use Rattle.attr_search.specs.shared.Slotted.{LinesHaveSlots, ListsHaveSlot
 ghost use Rattle.attr_search.specs.inner.Searched.{KeepsState, ListsKeepNamed, SearchedLine, SearchedLines, SearchedList, SearchedLists, SearchesPart, TestsRoots, query_candidates, query_setting, state_wanted};
 ghost use Rattle.attr_search.specs.shared.SlotContents.{empty_slots, open_slots};
 
+use crate::directory_keys::PathKeys;
 use crate::indexed_list::IndexedList;
 use crate::indexed_lists::IndexedLists;
 use crate::item_index::ItemIndex;
@@ -50,6 +51,8 @@ struct SearchBuffers {
     // A base name, reversed.
     reversed: Vec<u8>,
     indexes: Vec<usize>,
+    // Those of the last path's directories.
+    keys: PathKeys,
     // The numbers of lists.
     numbers: Vec<usize>,
     // The items that are still to be processed.
@@ -73,6 +76,7 @@ impl SearchState {
                 matching: MatchBuffers::new(alloc),
                 reversed: Vec::new(alloc),
                 indexes: Vec::new(alloc),
+                keys: PathKeys::new(alloc),
                 numbers: Vec::new(alloc),
                 stack: Vec::new(alloc),
             },
@@ -309,7 +313,7 @@ impl SearchBuffers {
         lists.find(
             query.path.as_bytes(),
             query.case,
-            &mut self.reversed,
+            &mut self.keys,
             &mut self.numbers,
         )?;
         Ok(mem::replace(&mut self.numbers, Vec::new(alloc)))
