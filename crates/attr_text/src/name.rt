@@ -89,6 +89,14 @@ fn is_valid(bytes: &[u8]) -> bool
 impl<'a> NameRef<'a> {
     ghost use Rattle.attr_text.specs.TextViews.{name_text};
 
+    /// A reference to the name that is this text.
+    pub fn of(text: &'a str) -> NameRef<'a>
+        requires { IsTrue (is_valid_name text.now) }
+        ensures { name_text result ≡ text.now }
+    {
+        NameRef { text }
+    }
+
     /// The name's text.
     pub fn as_str(&self) -> &'a str
         ensures { result.now ≡ name_text self.now }
@@ -152,9 +160,7 @@ impl Name {
     pub fn as_ref(&self) -> NameRef<'_>
         ensures { name_text result ≡ self.now }
     {
-        NameRef {
-            text: self.as_str(),
-        }
+        NameRef::of(self.as_str())
     }
 
     /// The name's text.

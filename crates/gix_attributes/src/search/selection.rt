@@ -16,7 +16,7 @@ use attr_search::bodies::{BodyChange, body_at};
 use attr_search::wanted::WantedFlags;
 use std::alloc::{AllocError, Global};
 use std::collections::BTreeSet;
-use std::rc::{Rc, RcStr};
+use std::rc::Rc;
 
 /// Looks up the numbers of names.
 pub(crate) fn look_up(
@@ -30,7 +30,7 @@ pub(crate) fn look_up(
     let mut selected = Vec::new(alloc);
     for name in names {
         let number = collection.number_of(name);
-        selected.push(SelectedName::new(RcStr::from_str(alloc, name)?, number)?)?;
+        selected.push(SelectedName::new(String::from_str(alloc, name)?, number))?;
     }
     Ok(selected)
 }
@@ -47,7 +47,7 @@ pub(crate) fn look_up_again(
     let mut again = Vec::new(alloc);
     for wanted in selected {
         let number = collection.number_of(wanted.name.as_str());
-        again.push(SelectedName::new(wanted.name.clone()?, number)?)?;
+        again.push(wanted.with_number(number)?)?;
     }
     Ok(again)
 }
@@ -61,7 +61,7 @@ pub(crate) fn copy_of(
 {
     let mut copy = Vec::new(alloc);
     for wanted in selected {
-        copy.push(SelectedName::new(wanted.name.clone()?, wanted.number)?)?;
+        copy.push(wanted.with_number(wanted.number)?)?;
     }
     Ok(copy)
 }

@@ -34,8 +34,8 @@ fn a_name_is_made_of_a_shared_text(rt: HostRuntime) -> Result<(), Fail> {
     let text = RcStr::from_str(rt.alloc(), "diff")?;
     let name = Name::of(text.clone()?);
     assert_eq!(rt;
-        (name.as_ref(), name.as_str()),
-        (name_of("diff")?, text.as_str())
+        (name.as_ref(), name.as_str(), NameRef::of("diff")),
+        (name_of("diff")?, text.as_str(), name_of("diff")?)
     );
     Ok(())
 }
