@@ -107,6 +107,10 @@ BOUNDS = [
      Counter.bytes, lambda n: add(b"* b\n" + LONG + b" a\n") + select(["b"]) + ask("c") * n, (100, 300), 1_000),
     ("text-memory", "a name and a value that were just read are not stored again: requests an item",
      Counter.requests, lambda n: add(b"* " + (b"n" * 60 + b"=" + b"v" * 60 + b" ") * n + b"\n"), (1_000, 3_000), 0.05),
+    ("idle-memory", "a line of a list that gives paths nothing is stored once: requests a line",
+     Counter.requests, lambda n: add(b"?\n" * n), (1_000, 3_000), 1.2),
+    ("selected-memory", "a selected name is stored once: requests a name",
+     Counter.requests, lambda n: select(words(n).split()), (1_000, 3_000), 1.2),
 ]
 
 

@@ -551,6 +551,18 @@ def short_lines(n):
     return add(b"?\n" * n)
 
 
+@case(2 ** 18)
+def short_lines_and_one(n):
+    """n lines `?`, and `* a`"""
+    return add(b"?\n" * n + b"* a\n")
+
+
+@case(2 ** 19)
+def empty_names(n):
+    """n empty names selected"""
+    return select([""] * n)
+
+
 @case(2 ** 17)
 def lines_of_one_name(n):
     """n lines `* a`"""

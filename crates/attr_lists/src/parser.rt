@@ -253,8 +253,8 @@ fn pattern_of(alloc: Global, kind: Kind) -> Result<Pattern, AllocError>
 // The bits of the five flags.
 const ALL_BITS: u32 = 0b1_1111;
 
-/// The mode of the pattern of a line that defines a macro, all five flags: it matches no path (own).
-pub fn macro_mode() -> Mode
+// The mode of the pattern of a line that defines a macro, all five flags: it matches no path (own).
+fn macro_mode() -> Mode
     ensures { mode_bits result ≡ all_flags }
 {
     Mode::from_bits_retain(ALL_BITS)

@@ -1,18 +1,19 @@
 -- What is made of a list's patterns stays theirs when the list is numbered.
-use Rattle.std.proofs.Common.{arith, ◌≡◌, ℕ, ◌<◌, List, [], ◌∷◌, length, get_or, map, Option, sym, ap, ◌∙◌}
+use Rattle.std.proofs.Common.{arith, ◌≡◌, ℕ, ◌<◌, false, List, [], ◌∷◌, length, get_or, map, Option, sym, ap, ◌∙◌}
 use mathlib.Core.List.{map-map}
 use Rattle.std.proofs.lemmas.List.{length-map, get_or-map}
 use Rattle.std.proofs.lemmas.List.Elements.{All-nil, All-cons, All-head, All-tail}
 use Rattle.attr_glob.specs.declared.search.pattern.Mapping.{Mapping}
 use Rattle.attr_glob.specs.Patterns.{Reading}
-use Rattle.attr_glob.specs.Views.{pattern_view, patterns_of}
+use Rattle.attr_glob.specs.Views.{pattern_view}
 use Rattle.attr_lists.specs.declared.types.Value.{Value}
 use Rattle.attr_lists.specs.ListViews.{Entry, entry_view, entries_view}
 use Rattle.attr_lists.specs.Numbers.{numbered, numbered_lines}
 use Rattle.attr_glob.specs.declared.search.pattern.indexed_line.IndexedLine.{IndexedLine}
 use Rattle.attr_glob.specs.Indexed.{NumberedPattern, indexed_line, indexed_lines, listed_lines}
 use Rattle.attr_glob.proofs.ForCallers.{lines_length}
-use Rattle.attr_search.proofs.EntryAtLemmas.{lines_patterns}
+use Rattle.attr_wildmatch.proofs.ForCallers.{by_test}
+use Rattle.attr_search.specs.declared.indexed_list.IndexedList.{IndexedList}
 use Rattle.attr_search.specs.inner.EntryAt.{entry_at, no_entry}
 use Rattle.attr_search.specs.shared.ReadLines.{IsRead, AreRead}
 
@@ -35,12 +36,24 @@ entry_pattern lines ms index line e lt is =
     ∙ (ap (λ ns. get_or ns index d) (sym (e ∙ lines-entries ms))
     ∙ (get_or-map indexed_line lines index line d (omega (arith, same, lt)) ∙ ap indexed_line (sym is))))
 
+-- a list that has lines in its index is not idle
+pub record IsBusyAt (list : IndexedList) (index : ℕ) : Type 0 where
+  pub busy : list.is_idle ≡ false
+  pub lines : indexed_lines list.index.value.lines.items ≡ listed_lines list.list.patterns.items
+  pub within : index < length list.list.patterns.items
+
+pub busy_lines : (list : IndexedList) → list.is_idle ≡ false → indexed_lines list.index.value.lines.items ≡ listed_lines list.list.patterns.items
+busy_lines list busy = rw busy at list.lines
+
+pub busy_at : (list : IndexedList) (index : ℕ) → index < length list.index.value.lines.items → IsBusyAt list index
+busy_at list index lt =
+    let busy = by_test list.is_idle (λ idle. absurd (grind (arith, length-map, list.lines))) (λ busy. busy) in
+    let lines = busy_lines list busy in
+    record { busy = busy; lines = lines; within = grind (arith, lines_length list.index.value.lines.items list.list.patterns.items lines) }
+
 -- lists that have the same lines
 pub same_lines : (before after : List (Mapping Value)) → entries_view after ≡ entries_view before → listed_lines after ≡ listed_lines before
 same_lines before after e = lines-entries after ∙ ap (map numbered_pattern) e ∙ sym (lines-entries before)
-
-pub same_patterns : (before after : List (Mapping Value)) → entries_view after ≡ entries_view before → patterns_of after ≡ patterns_of before
-same_patterns before after e = lines_patterns after ∙ ap (map (λ (entry : Entry). entry.pattern)) e ∙ sym (lines_patterns before)
 
 entry-numbered : (names : List (List ℕ)) (pattern : Reading) (items : List _) (line : ℕ) (macro : Option _)
     → IsRead (record { pattern = pattern; macro = macro; items = items; line = line }) → IsRead

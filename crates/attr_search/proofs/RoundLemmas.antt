@@ -1,29 +1,35 @@
 -- Lines that a search goes through one by one.
 use Rattle.std.proofs.Common.{◌≡◌, ℕ, suc, ◌-◌, ◌<◌, inl, Bool, true, false, List, [], ◌∷◌, ◌++◌, length, reverse, map, get_or}
-use Rattle.std.proofs.Common.{Some, None, refl, ap, subst, ◌∙◌, arith}
-use Rattle.std.specs.List.{flat_map}
+use Rattle.std.proofs.Common.{Option, Some, None, refl, ap, subst, ◌∙◌, arith}
+use Rattle.std.specs.Prelude.{◌==◌, ◌||◌, ◌&&◌, is_none, is_some, if◌then◌else◌}
+use Rattle.std.specs.List.{flat_map, list_all}
 use Rattle.std.proofs.lemmas.Grind.{flat_map-append}
 use Rattle.std.proofs.lemmas.List.{append-nil}
 use Rattle.std.proofs.lemmas.List.Concat.{flat_map_single}
 use Rattle.bstr.specs.BStr.{bstr_bytes}
 use Rattle.attr_glob.specs.Bases.{rest_below}
 use Rattle.attr_glob.specs.Candidates.{indexes_where}
+use Rattle.attr_glob.specs.Paths.{path_matches}
 use Rattle.attr_glob.specs.Views.{patterns_of}
-use Rattle.attr_wildmatch.proofs.ForCallers.{by_test}
+use Rattle.attr_wildmatch.proofs.ForCallers.{and_parts, by_test}
+use Rattle.attr_wildmatch.specs.declared.case.Case.{Case}
 use Rattle.attr_lists.specs.ListViews.{Entry, entries_view}
-use Rattle.attr_table.specs.Setting.{Item, Line}
+use Rattle.attr_lists.specs.declared.types.AttributeId.{AttributeId}
+use Rattle.attr_lists.specs.declared.types.TrackedAssignment.{TrackedAssignment}
+use Rattle.attr_table.specs.Setting.{Item, Line, Origin}
 use Rattle.attr_table.specs.Cut.{is_done}
-use Rattle.attr_table.specs.shared.Walk.{Task, Searches, backwards, line_tasks, list_tasks, tasks_of}
+use Rattle.attr_table.specs.shared.Walk.{Task, Searches, backwards, line_tasks, list_tasks, tasks_in, tasks_of}
 use Rattle.attr_table.proofs.ForCallers.{done_taken, nothing_taken, then_searches}
 use Rattle.attr_search.specs.declared.indexed_list.IndexedList.{IndexedList}
 use Rattle.attr_search.specs.declared.path_query.PathQuery.{PathQuery}
 use Rattle.attr_search.specs.IndexedLists.{listed_view}
-use Rattle.attr_search.specs.ListView.{Listed}
+use Rattle.attr_search.specs.ListView.{Listed, rest_for}
 use Rattle.attr_search.specs.SearchContents.{SearchContents}
 use Rattle.attr_search.specs.shared.SlotContents.{open_slots}
-use Rattle.attr_search.specs.Settings.{line_of}
+use Rattle.attr_search.specs.Settings.{line_of, origin_in}
+use Rattle.attr_search.specs.Slots.{table_items}
 use Rattle.attr_search.specs.inner.EntryAt.{entry_at, no_entry}
-use Rattle.attr_search.specs.inner.Lines.{entry_tasks, list_rounds, query_lines, rounds_of}
+use Rattle.attr_search.specs.inner.Lines.{entry_tasks, gives_nothing, list_rounds, query_lines, rounds_of}
 use Rattle.attr_search.specs.inner.Searched.{LineDone, Rounds, over, round}
 use Rattle.attr_search.specs.inner.Trying.{AreTried}
 use Rattle.attr_search.proofs.CandidateLemmas.{backwards-reverse, turned_at, passed_entry, tried_turned}
@@ -131,6 +137,34 @@ list_round bodies wanted query path list found before after below are p =
     let q = rounds_passed bodies wanted f test all (reverse all) no_entry (λ k lt. turned_at all k no_entry lt)
     (λ k lt out. passed_entry query.case query.is_dir source path are.test are.matching all list.read k lt out) (rw turned at p) in
     grind (arith, list_turned)
+
+-- a list whose lines give nothing
+no_items : (macro : Option AttributeId) (items : List TrackedAssignment) (matches : Bool) (origin : Origin) →
+    is_some macro || (length items == 0) ≡ true → tasks_in origin None (if is_none macro && matches then table_items items else []) ≡ []
+no_items (Some id) items matches origin none = refl
+no_items None [] matches origin none = by_test matches (λ t. rw t refl) (λ f. rw f refl)
+no_items None (i ∷ items) matches origin none = absurd (grind arith)
+
+nothing_given : (case : Case) (is_dir : Option Bool) (source rest : Option (List ℕ)) (entry : Entry) → gives_nothing entry ≡ true →
+    line_tasks (line_of case is_dir source rest entry) ≡ []
+nothing_given case is_dir source None entry none = refl
+nothing_given case is_dir source (Some rest) entry none =
+    no_items entry.macro entry.items (path_matches case entry.pattern rest is_dir) (origin_in source entry) none
+
+pub list_passed : (bodies : List (List Item)) (wanted : List ℕ) (query : PathQuery) (listed : Listed) (state : SearchContents) →
+    list_all gives_nothing listed.lines ≡ true → Rounds bodies wanted (list_rounds (query_lines query listed)) state state
+list_passed bodies wanted query listed state all = passed listed.lines all
+  where
+    rest : Option (List ℕ)
+    rest = rest_for query.case (bstr_bytes query.path) listed
+
+    passed : (lines : List Entry) → list_all gives_nothing lines ≡ true →
+        Rounds bodies wanted (list_rounds (map (line_of query.case query.is_dir listed.source rest) lines)) state state
+    passed [] all = over
+    passed (l ∷ lines) all =
+        let both = and_parts (gives_nothing l) (list_all gives_nothing lines) all in
+        rounds_append (passed lines both.1)
+        (round (rw (nothing_given query.case query.is_dir listed.source rest l both.0) (no_tasks bodies wanted state)) over)
 
 -- a list that does not apply
 pub list_unasked : (bodies : List (List Item)) (wanted : List ℕ) (query : PathQuery) (listed : Listed) (state : SearchContents) →

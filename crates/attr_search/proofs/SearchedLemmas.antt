@@ -1,6 +1,6 @@
 -- Parts of a search, one after another.
 use Rattle.std.proofs.Common.{◌≡◌, ℕ, ◌+◌, ◌<◌, ◌≤◌, ◌⊎◌, false, true, List, [], ◌∷◌, ◌++◌, length, map, get_or, take, drop, Some, None}
-use Rattle.std.proofs.Common.{refl, sym, arith, subst, zero, suc, Option, length-append}
+use Rattle.std.proofs.Common.{refl, sym, arith, subst, zero, suc, length-append}
 use Rattle.std.specs.Prelude.{slice_get}
 use Rattle.std.specs.List.{list_all}
 use Rattle.std.specs.List.Sorted.{IsNonDecreasing}
@@ -10,7 +10,7 @@ use Rattle.std.proofs.lemmas.List.Elements.{All-head, All-tail}
 use Rattle.std.proofs.lemmas.List.Sums.{sum_by-cons}
 use Rattle.bstr.specs.BStr.{bstr_bytes}
 use Rattle.attr_glob.specs.Bases.{rest_below}
-use Rattle.attr_glob.specs.Candidates.{has_macro_mode}
+use Rattle.attr_lists.specs.ListViews.{entries_view}
 use Rattle.attr_glob.specs.Views.{patterns_of}
 use Rattle.attr_table.specs.Cut.{is_done}
 use Rattle.attr_table.specs.shared.Walk.{Task}
@@ -23,12 +23,12 @@ use Rattle.attr_search.specs.shared.SlotContents.{open_slots}
 use Rattle.attr_search.specs.Settings.{LinesAreNamed, candidates_in}
 use Rattle.attr_search.specs.shared.Slotted.{LinesHaveSlots, ListsHaveSlots}
 use Rattle.attr_search.specs.inner.FoundLists.{AreListsFor}
+use Rattle.attr_search.specs.inner.Lines.{gives_nothing}
 use Rattle.attr_search.specs.inner.Searched.{KeepsState, Rounds, Searched, SearchedLine, SearchedLines, SearchedList, SearchedLists}
 use Rattle.attr_search.specs.inner.Searched.{over, state_bodies, state_wanted}
 use Rattle.attr_search.specs.inner.Trying.{AreTried}
 use Rattle.attr_search.proofs.CandidateLemmas.{tried_most}
-use Rattle.attr_search.proofs.RoundLemmas.{list_round, list_unasked, rounds_append, rounds_done}
-use Rattle.attr_search.proofs.TryingLemmas.{idle_tried}
+use Rattle.attr_search.proofs.RoundLemmas.{list_passed, list_round, list_unasked, rounds_append, rounds_done}
 
 -- what is kept, and what is kept twice
 pub state_kept : (state : SearchContents) → KeepsState state state
@@ -72,7 +72,7 @@ indexes_done rest listed indexes k first second kept done p =
     subst (λ xs. SearchedLines rest listed xs first second) (take-append-drop k indexes)
     (indexes_append rest listed (take k indexes) (drop k indexes) first second second kept p (done_searched second done))
 
--- a list that does not apply to the path, one whose candidates were searched, and one whose lines define macros
+-- a list that does not apply to the path, one whose candidates were searched, and one whose lines give nothing
 pub list_apart : (query : PathQuery) (listed : Listed) (state : SearchContents) →
     None ≡ rest_below listed.base query.case (bstr_bytes query.path) → SearchedList query listed state state
 list_apart query listed state none = grind (arith, list_unasked)
@@ -92,17 +92,12 @@ list_by_candidates query rest list found before after below case dir are p =
     }
 
 pub list_idle : (query : PathQuery) (list : IndexedList) (state : SearchContents) →
-    list_all has_macro_mode (patterns_of list.list.patterns.items) ≡ true → SearchedList query (listed_view list) state state
-list_idle query list state all = below (rest_below (listed_view list).base query.case (bstr_bytes query.path)) refl
-  where
-    below : (rest : Option (List ℕ)) → rest ≡ rest_below (listed_view list).base query.case (bstr_bytes query.path) →
-        SearchedList query (listed_view list) state state
-    below None is = list_apart query (listed_view list) state is
-    below (Some rest) is = record {
+    list_all gives_nothing (entries_view list.list.patterns.items) ≡ true → SearchedList query (listed_view list) state state
+list_idle query list state all =
+    record {
       named = λ names items bodies held. held;
       tested = omega arith;
-      rounds = list_round (state_bodies state) (state_wanted state) query rest list [] state state is
-          (idle_tried query.case rest (patterns_of list.list.patterns.items) all) over;
+      rounds = list_passed (state_bodies state) (state_wanted state) query (listed_view list) state all;
     }
 
 -- one more list, and all if the search is done

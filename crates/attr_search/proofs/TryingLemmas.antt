@@ -1,8 +1,8 @@
 -- The keys of lines decide between the lines that match a path and the candidates for it.
-use Rattle.std.proofs.Common.{ap, ◌≡◌, ℕ, suc, ◌==◌, Bool, true, false, not, ◌||◌, List, [], ◌∷◌, take, map, position, Option, Some, None, refl}
+use Rattle.std.proofs.Common.{ap, ◌≡◌, ℕ, suc, ◌==◌, Bool, true, false, not, ◌||◌, List, ◌∷◌, take, map, position, Option, Some, None, refl}
 use Rattle.std.proofs.Common.{sym, ◌∙◌, arith}
 use Rattle.std.specs.Prelude.{is_none, slice_get}
-use Rattle.std.specs.List.{list_all, starts_with}
+use Rattle.std.specs.List.{starts_with}
 use Rattle.attr_keys.specs.declared.key.Subject.TheVariants.{Name, Path}
 use Rattle.attr_keys.specs.shared.LineKeys.{prefix_of}
 use Rattle.attr_keys.specs.shared.KeyContents.{KeyContent}
@@ -83,13 +83,3 @@ found_tried case path lines keys found is down has =
       candidate = tried_is_candidate case path;
       matching = λ text line is_dir read plain m. matching_is_tried case path text line is_dir read plain m;
     }
-
--- of lines that define macros none is tried
-none_passes : (case : Case) (path : List ℕ) (lines : List Reading) (row : ℕ) → list_all has_macro_mode lines ≡ true →
-    passes (is_tried case path) (slice_get lines row) ≡ false
-none_passes case path (line ∷ lines) (suc row) all = grind (arith, and_parts, none_passes case path lines row)
-none_passes case path lines row all = grind (arith, and_parts)
-
-pub idle_tried : (case : Case) (path : List ℕ) (lines : List Reading) → list_all has_macro_mode lines ≡ true → AreTried case path lines []
-idle_tried case path lines all =
-    grind (arith, found_tried case path lines (map key_of_line lines), met_at case path lines, none_passes case path lines)

@@ -1,31 +1,28 @@
 //! A list of a search, with the index of its lines, which is made once.
 
-ghost use Rattle.std.specs.Prelude.{◌≡◌, ◌<◌, None, length, false, All, IfOk, OnOk, OnErr, option_map, string_bytes};
+ghost use Rattle.std.specs.Prelude.{◌≡◌, ◌<◌, [], None, length, false, All, IfOk, OnOk, OnErr, option_map, string_bytes, if◌then◌else◌};
 ghost use Rattle.bstr.specs.BStr.{bstr_bytes};
 ghost use Rattle.std.specs.List.{list_all};
-ghost use Rattle.attr_glob.specs.Candidates.{has_macro_mode};
 ghost use Rattle.attr_glob.specs.Paths.{path_matches};
 ghost use Rattle.attr_search.specs.inner.EntryAt.{entry_at};
+ghost use Rattle.attr_search.specs.inner.Lines.{gives_nothing};
 ghost use Rattle.attr_search.specs.inner.Trying.{AreTried};
-ghost use Rattle.attr_glob.specs.Views.{base_bytes, pattern_view, patterns_of};
+ghost use Rattle.attr_glob.specs.Views.{base_bytes, patterns_of};
 ghost use Rattle.attr_search.specs.inner.DirectoryKeys.{base_directory, keys_of};
 ghost use Rattle.attr_lists.specs.Definitions.{HoldsList, IsSoundCollection, RegistersAs};
-ghost use Rattle.attr_lists.specs.ListViews.{entries_view};
+ghost use Rattle.attr_lists.specs.ListViews.{entries_view, entry_view};
 ghost use Rattle.attr_search.specs.shared.ReadLines.{AreRead};
 ghost use Rattle.attr_glob.specs.Indexed.{indexed_lines, listed_lines};
 ghost use Rattle.attr_lists.specs.shared.Keeping.{IsNumbered};
 
 use crate::directory_keys::{BaseKeys, base_directory};
 use crate::path_query::PathQuery;
-use attr_glob::Pattern;
 use attr_glob::pattern::base_name;
 use attr_glob::search::pattern::{Index, List, Mapping};
 use attr_glob::wildmatch::MatchBuffers;
 use attr_keys::key::Texts;
 use attr_lists::name_table::NameTable;
-use attr_lists::parser::macro_mode;
 use attr_lists::types::{Attributes, Value};
-use bitflags::Flags;
 use std::alloc::{AllocError, Global};
 use std::rc::Rc;
 
@@ -41,7 +38,8 @@ const IDLE_KEYS: BaseKeys = BaseKeys {
 pub struct IndexedList {
     /// The lines, their source, and the base below which they apply.
     pub list: List<Attributes>,
-    /// The lines as searches read them, which is shared with the outcomes that have answers of the list.
+    /// The lines as searches read them, which is shared with the outcomes that have answers of the list. That of an idle list
+    /// has none.
     #[derive_where(skip)]
     pub index: Rc<Index>,
     /// The list id under which the list is registered in its collection.
@@ -50,13 +48,15 @@ pub struct IndexedList {
     /// The keys of the base, by which a path finds the list. No path finds a list that is idle.
     #[derive_where(skip)]
     pub base_keys: BaseKeys,
-    /// Whether each line defines a macro, so that none matches a path.
+    /// Whether each line defines a macro or has no items, so that no path is given any.
     #[derive_where(skip)]
     pub is_idle: bool,
-    ghost lines: { indexed_lines index.value.lines.items ≡ listed_lines list.patterns.items },
-    ghost source: { option_map string_bytes index.value.source ≡ option_map string_bytes list.source },
+    ghost lines: { indexed_lines index.value.lines.items
+        ≡ (if is_idle then [] else listed_lines list.patterns.items) },
+    ghost source: { is_idle ≡ false →
+        option_map string_bytes index.value.source ≡ option_map string_bytes list.source },
     ghost based: { is_idle ≡ false → base_keys ≡ keys_of (base_directory (base_bytes list.base)) },
-    ghost idle: { is_idle ≡ list_all has_macro_mode (patterns_of list.patterns.items) },
+    ghost idle: { is_idle ≡ list_all gives_nothing (entries_view list.patterns.items) },
     ghost read: { ∥ AreRead (entries_view list.patterns.items) ∥₁ },
 }
 
@@ -84,10 +84,10 @@ impl IndexedList {
         ensures sound { OnOk result (IsSoundCollection names.new) }
         ensures refused { OnErr result (names.new ≡ names.old) }
     {
-        let index = Rc::new(alloc, Index::of(alloc, &list)?)?;
+        let is_idle = all_give_nothing(&list.patterns);
+        let index = Rc::new(alloc, index_of(alloc, &list, is_idle)?)?;
         let keys_of_base = BaseKeys::of(alloc, base_directory(&list.base))?;
         let list_id = names.register(alloc, &list.patterns)?;
-        let is_idle = are_macros(&list.patterns);
         let base_keys = if is_idle { IDLE_KEYS } else { keys_of_base };
         Ok(IndexedList {
             list,
@@ -110,6 +110,7 @@ impl IndexedList {
         reversed: &mut Vec<u8>,
         indexes: &mut Vec<usize>,
     ) -> Result<(), AllocError>
+        requires { self.now.is_idle ≡ false }
         ensures { OnOk result (AreTried rest.entry.case (bstr_bytes rest.entry.path)
             (patterns_of self.now.list.patterns.items) indexes.new.items) }
     {
@@ -134,7 +135,7 @@ impl IndexedList {
         rest: PathQuery<'_>,
         buffers: &mut MatchBuffers,
     ) -> Result<bool, AllocError>
-        requires index { index < length self.now.list.patterns.items }
+        requires index { index < length self.now.index.value.lines.items }
         requires no_macro { (entry_at (entries_view self.now.list.patterns.items) index).macro
             ≡ None }
         ensures { IfOk result (λ answer. answer ≡ path_matches rest.entry.case
@@ -173,15 +174,33 @@ impl IndexedList {
     }
 }
 
-// Whether each line defines a macro, so that none matches a path.
-fn are_macros(mappings: &[Mapping<Value>]) -> bool
-    ensures { result ≡ list_all has_macro_mode (patterns_of mappings.now) }
+// The index of a list. That of an idle one has no lines.
+fn index_of(alloc: Global, list: &List<Attributes>, is_idle: bool) -> Result<Index, AllocError>
+    ensures lines { IfOk result (λ index. indexed_lines index.lines.items
+        ≡ (if is_idle then [] else listed_lines list.now.patterns.items)) }
+    ensures source { IfOk result (λ index. is_idle ≡ false →
+        option_map string_bytes index.source ≡ option_map string_bytes list.now.source) }
 {
-    mappings.iter().all(|mapping| is_macro(&mapping.pattern))
+    if is_idle {
+        Index::without_lines(alloc)
+    } else {
+        Index::of(alloc, list)
+    }
 }
 
-fn is_macro(pattern: &Pattern) -> bool
-    ensures { result ≡ has_macro_mode (pattern_view pattern.now) }
+// Whether no line gives a path anything.
+fn all_give_nothing(mappings: &[Mapping<Value>]) -> bool
+    ensures { result ≡ list_all gives_nothing (entries_view mappings.now) }
 {
-    pattern.mode.contains(macro_mode())
+    mappings.iter().all(gives_nothing)
+}
+
+// Whether a line defines a macro or has no items.
+fn gives_nothing(mapping: &Mapping<Value>) -> bool
+    ensures { result ≡ gives_nothing (entry_view mapping.now) }
+{
+    match &mapping.value {
+        Value::MacroAssignments { .. } => true,
+        Value::Assignments(assignments) => assignments.is_empty(),
+    }
 }

@@ -247,7 +247,8 @@ impl SearchState {
         indexes: &[usize],
         rest: PathQuery<'_>,
     ) -> Result<(), AllocError>
-        requires indexes { All (λ index. index < length list.now.list.patterns.items) indexes.now }
+        requires indexes { All (λ index. index < length list.now.index.value.lines.items)
+            indexes.now }
         requires in_lines { LinesHaveSlots
             (length self.old.slots.answers) (listed_view list.now).lines }
         ensures { SearchesPart result
@@ -273,7 +274,7 @@ impl SearchState {
         index: usize,
         rest: PathQuery<'_>,
     ) -> Result<(), AllocError>
-        requires index { index < length list.now.list.patterns.items }
+        requires index { index < length list.now.index.value.lines.items }
         requires in_lines { LinesHaveSlots
             (length self.old.slots.answers) (listed_view list.now).lines }
         ensures { SearchesPart result
@@ -326,6 +327,7 @@ impl SearchBuffers {
         list: &IndexedList,
         rest: PathQuery<'_>,
     ) -> Result<Vec<usize>, AllocError>
+        requires { list.now.is_idle ≡ false }
         ensures { IfOk result (λ indexes. AreTried rest.entry.case
             (bstr_bytes rest.entry.path) (patterns_of list.now.list.patterns.items) indexes.items) }
     {

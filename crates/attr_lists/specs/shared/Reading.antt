@@ -32,7 +32,7 @@ pub record IsReadWith (allow_macros : Bool) (bytes : List ℕ) (old new : List (
 abbrev pub with_first : ℕ → Collection → Collection
 with_first count known = record { names = take count known.names; lists = known.lists }
 
--- no list was added or removed, only names may have been; if memory ran out, nothing changed
+-- no list was added or removed, only names may have been, and the collection is sound; if memory ran out, nothing changed
 pub record AddsNames {X E : Type 0} (result : Result X E) (old new : Collection) : Type 0 where
   pub lists : new.lists ≡ old.lists
   pub sound : IsSoundCollection new

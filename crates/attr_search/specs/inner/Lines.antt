@@ -1,5 +1,5 @@
 -- The lines that functions search (own). Nothing here has to be believed.
-use Rattle.std.specs.Prelude.{ℕ, List, ◌∷◌, [], map, Bool, Option, Some}
+use Rattle.std.specs.Prelude.{ℕ, ◌==◌, ◌||◌, List, ◌∷◌, [], map, length, Bool, Option, Some, is_some}
 use Rattle.bstr.specs.BStr.{bstr_bytes}
 use Rattle.attr_wildmatch.specs.declared.case.Case.{Case}
 use Rattle.attr_lists.specs.ListViews.{Entry}
@@ -18,6 +18,10 @@ entry_tasks case is_dir source rest entry = line_tasks (line_of case is_dir sour
 abbrev pub listed_tasks : PathQuery → Listed → ℕ → List Task
 listed_tasks rest listed index =
     entry_tasks rest.case rest.is_dir listed.source (bstr_bytes rest.path) (entry_at listed.lines index)
+
+-- a line that defines a macro or has no items gives nothing to any path
+abbrev pub gives_nothing : Entry → Bool
+gives_nothing entry = is_some entry.macro || (length entry.items == 0)
 
 -- the lines of a list, and those of lists, for the path of a query
 abbrev pub query_lines : PathQuery → Listed → List Line

@@ -1,6 +1,6 @@
 //! The lines of a list as searches read them, and which of them a path has to be matched against.
 
-ghost use Rattle.std.specs.Prelude.{◌≡◌, ◌↔◌, IfOk, IsTrue, option_map, string_bytes};
+ghost use Rattle.std.specs.Prelude.{◌≡◌, ◌↔◌, [], IfOk, IsTrue, option_map, string_bytes};
 ghost use Rattle.bstr.specs.BStr.{bstr_bytes};
 ghost use Rattle.attr_glob.specs.BaseNames.{base_name, base_name_offset};
 ghost use Rattle.attr_glob.specs.Candidates.{candidates};
@@ -63,6 +63,23 @@ impl Index {
         Ok(Index {
             lines,
             source,
+            keys,
+        })
+    }
+
+    /// The index of no lines.
+    ///
+    /// # Errors
+    ///
+    /// If memory runs out.
+    pub fn without_lines(alloc: Global) -> Result<Index, AllocError>
+        ensures { IfOk result (λ index. index.lines.items ≡ []) }
+    {
+        let lines = Vec::new(alloc);
+        let keys = KeyIndex::of(alloc, &lines, Kinds::new(alloc, 0)?)?;
+        Ok(Index {
+            lines,
+            source: None,
             keys,
         })
     }

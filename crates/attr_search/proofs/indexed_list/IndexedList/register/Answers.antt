@@ -1,12 +1,11 @@
 use Rattle.std.proofs.Common.{◌∙◌, sym, subst, ap, true≢false}
 use Rattle.std.specs.Prelude.{option_map, string_bytes}
 use Rattle.std.specs.List.{list_all}
-use Rattle.attr_glob.specs.Candidates.{has_macro_mode}
 use Rattle.attr_glob.specs.Indexed.{indexed_lines}
-use Rattle.attr_glob.specs.Views.{patterns_of}
 use Rattle.attr_lists.specs.Definitions.{HoldsList, RegistersAs}
 use Rattle.attr_lists.specs.ListViews.{entries_view}
 use Rattle.attr_search.specs.inner.DirectoryKeys.{keys_of}
+use Rattle.attr_search.specs.inner.Lines.{gives_nothing}
 use Rattle.attr_search.proofs.indexed_list.IndexedList.register.Goals.{then-is_idle, else-is_idle}
 use Rattle.attr_search.proofs.indexed_list.IndexedList.register.Goals as goal
 
@@ -15,7 +14,7 @@ invariant_of-result-clause-read c = ∣ c.requires.read ∣₁
 
 pub invariant_of-result-clause-idle : goal.invariant_of-result-clause-idle
 invariant_of-result-clause-idle c =
-    c.are_macros-is_idle.ensures ∙ ap (λ mappings. list_all has_macro_mode (patterns_of mappings)) c.deref-2.ensures.value
+    c.all_give_nothing-is_idle.ensures ∙ ap (λ mappings. list_all gives_nothing (entries_view mappings)) c.deref.ensures.value
 
 pub invariant_of-result-clause-based : goal.invariant_of-result-clause-based
 invariant_of-result-clause-based c = λ busy.
@@ -25,17 +24,18 @@ invariant_of-result-clause-based c = λ busy.
     ]
 
 pub invariant_of-result-clause-lines : goal.invariant_of-result-clause-lines
-invariant_of-result-clause-lines c = ap (λ index. indexed_lines index.lines.items) c.in_ok-index.ensures.ok ∙ c.in_ok-of.ensures.lines
+invariant_of-result-clause-lines c = ap (λ index. indexed_lines index.lines.items) c.in_ok-index.ensures.ok ∙ c.in_ok-index_of.ensures.lines
 
 pub invariant_of-result-clause-source : goal.invariant_of-result-clause-source
-invariant_of-result-clause-source c = ap (λ index. option_map string_bytes index.source) c.in_ok-index.ensures.ok ∙ c.in_ok-of.ensures.source
+invariant_of-result-clause-source c = λ busy.
+    ap (λ index. option_map string_bytes index.source) c.in_ok-index.ensures.ok ∙ c.in_ok-index_of.ensures.source busy
 
 pub returns-clause-registered : goal.returns-clause-registered
 returns-clause-registered c =
-    subst (λ mappings. RegistersAs c.in_ok-list_id.list_id (entries_view mappings) c.args.names.now c.register.new.self) c.deref.ensures.value
+    subst (λ mappings. RegistersAs c.in_ok-list_id.list_id (entries_view mappings) c.args.names.now c.register.new.self) c.deref-2.ensures.value
     c.in_ok-list_id.ensures.registered
 
 pub returns-clause-holds : goal.returns-clause-holds
 returns-clause-holds c =
-    subst (λ mappings. HoldsList c.register.new.self c.in_ok-list_id.list_id (entries_view mappings)) c.deref.ensures.value
+    subst (λ mappings. HoldsList c.register.new.self c.in_ok-list_id.list_id (entries_view mappings)) c.deref-2.ensures.value
     c.in_ok-list_id.ensures.holds

@@ -1,7 +1,9 @@
 use Rattle.std.proofs.Common.{arith, sym, ◌∙◌, rules}
 use Rattle.std.proofs.lemmas.Result.{on_ok_weaker}
+use Rattle.attr_glob.proofs.ForCallers.{lines_length}
 use Rattle.attr_search.specs.IndexedLists.{listed_view}
 use Rattle.attr_search.proofs.CandidateLemmas.{tried_fit}
+use Rattle.attr_search.proofs.IndexedListLemmas.{busy_lines}
 use Rattle.attr_search.proofs.SearchedLemmas.{list_apart, list_by_candidates, list_idle, state_kept}
 use Rattle.attr_search.proofs.search_state.SearchState.search_list.Goals as goal
 
@@ -21,7 +23,7 @@ pub returns-in_err-indexes : goal.returns-in_err-indexes
 returns-in_err-indexes c = record { kept = state_kept c.args.self.now.slots; done = search rules }
 
 pub search_lines-searched-requires-clause-indexes : goal.search_lines-searched-requires-clause-indexes
-search_lines-searched-requires-clause-indexes c = grind (arith, tried_fit)
+search_lines-searched-requires-clause-indexes c = grind (arith, tried_fit, busy_lines, lines_length)
 
 pub returns : goal.returns
 returns c =
