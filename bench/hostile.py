@@ -282,6 +282,12 @@ def known_names_asked(n):
     return add(b"x " + words(n).encode() + b"\n") + ask("b") * n
 
 
+@case(13_000)
+def new_names_selected(n):
+    """a name selected, then n times: a list with a new name, its pop, a path"""
+    return select(["b"]) + new_names(n)
+
+
 @case(18_000)
 def selections(n):
     """n names known, then n times: a selection of one, a path"""

@@ -1,6 +1,7 @@
 //! Iterators over the matches of an outcome.
 
-ghost use Rattle.std.specs.Prelude.{◌≡◌, [], ◌∷◌, MatchOption, drop, string_bytes};
+ghost use Rattle.std.specs.Prelude.{◌≡◌, [], ◌∷◌, MatchOption, drop};
+ghost use Rattle.std.specs.Rc.{rc_str_bytes};
 ghost use Rattle.std.specs.Iterator.{YieldsFirstBy, item_count};
 ghost use Rattle.attr_glob.specs.Views.{pattern_view};
 ghost use Rattle.gix_attributes.specs.Contents.{found_in, selected_in, unspecified};
@@ -122,7 +123,7 @@ impl<'a> Iterator for Selected<'a> {
 #[inline(always)]
 pub(crate) fn unspecified<'a>(selected: &'a SelectedName, empty: &'a Pattern) -> Match<'a>
     requires { pattern_view empty.now ≡ no_pattern }
-    ensures { match_view result ≡ unspecified (string_bytes selected.now.name) }
+    ensures { match_view result ≡ unspecified (rc_str_bytes selected.now.name) }
 {
     Match {
         pattern: empty,

@@ -1,6 +1,7 @@
 //! The names that an outcome looks for, with their numbers, and the bodies in which it differs from a collection.
 
 ghost use Rattle.std.specs.Prelude.{◌≡◌, ◌↔◌, ◌<◌, ◌++◌, ⊤, ℕ, List, IsTrue, All, IfOk, OnOk, MatchOption, length, map};
+ghost use Rattle.std.specs.Rc.{rc_str_bytes};
 ghost use Rattle.gix_attributes.specs.Contents.{bodies_of, looked_up, names_selected};
 ghost use Rattle.gix_attributes.specs.inner.BodiesMade.{AreMade};
 ghost use Rattle.gix_attributes.specs.inner.Consistency.{AreEmptyElsewhere};
@@ -16,7 +17,7 @@ use attr_search::bodies::{BodyChange, body_at};
 use attr_search::wanted::WantedFlags;
 use std::alloc::{AllocError, Global};
 use std::collections::BTreeSet;
-use std::rc::Rc;
+use std::rc::{Rc, RcStr};
 
 /// Looks up the numbers of names.
 pub(crate) fn look_up(
@@ -30,9 +31,20 @@ pub(crate) fn look_up(
     let mut selected = Vec::new(alloc);
     for name in names {
         let number = collection.number_of(name);
-        selected.push(SelectedName::new(String::from_str(alloc, name)?, number))?;
+        let text = text_of(alloc, &selected, name)?;
+        selected.push(SelectedName::new(text, number))?;
     }
     Ok(selected)
+}
+
+// The text of a name, which shares that of the last selected name if this is the same.
+fn text_of(alloc: Global, selected: &[SelectedName], name: &str) -> Result<RcStr, AllocError>
+    ensures { IfOk result (λ text. rc_str_bytes text ≡ name.now) }
+{
+    match selected.last() {
+        Some(last) if last.name.as_str() == name => last.name.clone(),
+        _ => RcStr::from_str(alloc, name),
+    }
 }
 
 /// Looks up the numbers of selected names again.
